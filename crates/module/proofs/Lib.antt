@@ -1,0 +1,12 @@
+pub mod Accepts
+pub mod Depths
+pub mod Firsts
+pub mod Fronts
+pub mod Keeps
+pub mod Lookup
+pub mod Masks
+pub mod Opens
+pub mod Passes
+pub mod ShapeRows
+pub mod Spans
+pub mod Turns

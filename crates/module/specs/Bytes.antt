@@ -1,0 +1,13 @@
+-- Numbers in a list of bytes, lowest byte first. Past the end a byte reads as 0.
+use mathlib.Core.List.{List}
+use Prim.Native.Nat.{ℕ, _+_, _*_}
+use lib.ListN.{getD}
+
+abbrev pub byte : List ℕ → ℕ → ℕ
+byte bs at = getD bs at 0
+
+abbrev pub two : List ℕ → ℕ → ℕ
+two bs at = byte bs at + 256 * byte bs (at + 1)
+
+abbrev pub four : List ℕ → ℕ → ℕ
+four bs at = byte bs at + 256 * byte bs (at + 1) + 65536 * byte bs (at + 2) + 16777216 * byte bs (at + 3)

@@ -1,0 +1,11 @@
+pub mod Accepted
+pub mod Bytes
+pub mod First
+pub mod Kept
+pub mod Laid
+pub mod Layout
+pub mod Ready
+pub mod Rules
+pub mod Shape
+pub mod Told
+pub mod Verdict
