@@ -9,4 +9,6 @@ mod check_tests;
 #[cfg(test)]
 mod open_tests;
 #[cfg(test)]
+mod packing_tests;
+#[cfg(test)]
 mod sheet_tests;

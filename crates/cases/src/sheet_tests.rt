@@ -1,8 +1,10 @@
 use crate::answers::ACCEPTED;
 use crate::answers::Answer;
 use crate::answers::answer;
+use crate::answers::same;
 use crate::build::RAMP;
 use module::shape::ShapeRow;
+use module::shape::ShapeRowPartialEq;
 use std::test::*;
 
 // What a row holds that no check wrote.
@@ -23,18 +25,6 @@ const FILLED: [ShapeRow; 9] = [
     OTHER,
     OTHER,
 ];
-
-fn same(rows: &[ShapeRow], wanted: &[ShapeRow]) -> bool {
-    if rows.len() != wanted.len() {
-        return false;
-    }
-    for i in 0..rows.len() {
-        if rows[i].depth != wanted[i].depth || rows[i].mask != wanted[i].mask {
-            return false;
-        }
-    }
-    true
-}
 
 // A ramp that writes its constant: broken at instruction 2.
 fn broken() -> [u8; 60] {

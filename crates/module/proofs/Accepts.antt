@@ -8,23 +8,28 @@ use native.Mathlib.Omega.{arith}
 use lib.Dec.{ltb}
 use lib.ListN.{length, getD, take, drop, length-take, length-drop}
 use Rattle.std.proofs.shelf.Lists.{getD-take, getD-drop}
-use Rattle.std.proofs.shelf.Tests.{and-parts, and-from, cond-true, eq-eqb, ltb-true, leb-true, false≢true, not-true}
+use Rattle.std.proofs.shelf.Tests.{and-parts, and-from, cond-true, eq-eqb, ltb-true, lt-ltb, leb-true, false≢true, not-true}
 use Rattle.std.proofs.shelf.Ways.{tells}
 use Rattle.std.specs.Results.{isOk}
 use Rattle.std.specs.declared.option.Option.{Option}
 use Rattle.std.specs.declared.option.Option.the-variants.{Some, None}
+use Rattle.std.specs.Vec.{made}
 use Rattle.std.specs.declared.result.Result.{Result}
-use Rattle.refusal.specs.Values.{Values}
+use Rattle.std.specs.declared.result.Result.the-variants.{Ok, Err}
+use Rattle.refusal.specs.Values.{Values, told}
 use Rattle.refusal.specs.declared.Place.{Place}
+use Rattle.refusal.specs.declared.Refusal.{Refusal}
 use Rattle.isa.specs.declared.access.Span.{Span}
 use Rattle.isa.specs.declared.instr.Instr.{Instr}
 use Rattle.isa.specs.declared.instr.Instr.the-variants.{Call, Ret}
 use Rattle.isa.specs.Access.{ends}
 use Rattle.isa.specs.Form.{wellFormed, instruction}
 use Rattle.module.specs.declared.opened.Counts.{Counts}
+use Rattle.module.specs.declared.opened.Opened.{Opened}
 use Rattle.module.specs.declared.rule.Rule.{Rule}
 use Rattle.module.specs.declared.rule.Rule.the-variants.{Form, Stack, Callee, Registers, Constants, Target, Ending}
 use Rattle.module.specs.Accepted.{accepted, countsOf}
+use Rattle.module.specs.Bytes.{Octets, octets}
 use Rattle.module.specs.First.{passes}
 use Rattle.module.specs.Kept.{In, Reads, Writes, Kept, KeptEverywhere}
 use Rattle.module.specs.Laid.{Laid}
@@ -32,6 +37,7 @@ use Rattle.module.specs.Layout.{routines, imageLength, count, arguments, resul
 use Rattle.module.specs.Ready.{Everywhere}
 use Rattle.module.specs.Rules.{stacks, calls, accessIn, both, fits, registers, variables, spares, constants, sameFlag, sameShape, targets, closes, rules}
 use Rattle.module.specs.Shape.{shape}
+use Rattle.module.specs.Told.{Sound, bytesOf}
 use Rattle.module.specs.Verdict.{breach, orNext, tried}
 use Rattle.module.proofs.Depths.{depth-kept}
 use Rattle.module.proofs.Opens.{laid}
@@ -50,8 +56,36 @@ counts-from bs c h =
     let t : c .total ≡ total bs = grind (arith, tells) in
     λ i. record { routines = n i; image = d i; total = t i }
 
+-- the parts of acceptance
+parts : (bs : List ℕ) → accepted bs ≡ true → (octets bs ≡ true) × (isOk (opening bs) ≡ true) × (isOk (tried rules bs) ≡ true)
+parts bs h =
+    let p = and-parts (octets bs) (isOk (opening bs) && isOk (tried rules bs)) h in
+    let q = and-parts (isOk (opening bs)) (isOk (tried rules bs)) (p .1) in
+    (p .0, q .0, q .1)
+
+octets-at : (bs : List ℕ) → octets bs ≡ true → Octets bs
+octets-at [] h k = omega arith
+octets-at (b ∷ bs) h zero = ltb-true b 256 (and-parts (ltb b 256) (octets bs) h .0)
+octets-at (b ∷ bs) h (suc k) = octets-at bs (and-parts (ltb b 256) (octets bs) h .1) k
+
+octets-from : (bs : List ℕ) → Octets bs → octets bs ≡ true
+octets-from [] h = refl
+octets-from (b ∷ bs) h = and-from _ _ (lt-ltb b 256 (h 0)) (octets-from bs (λ k. h (suc k)))
+
+-- an answer of the rules over bytes that open
+pub accepts-by : (r : Result (Unit {0}) Refusal) (bs : List ℕ) → told r ≡ tried rules bs → isOk (opening bs) ≡ true → Octets bs → made r (λ _. accepted bs ≡ true)
+accepts-by (Ok u) bs e opens each = and-from _ _ (octets-from bs each) (and-from _ _ opens (ap isOk (sym e)))
+accepts-by (Err x) bs e opens each = tt
+
+pub accepts-octets : (bs : List ℕ) → accepted bs ≡ true → Octets bs
+accepts-octets bs h = octets-at bs (parts bs h .0)
+
 pub accepts-laid : (bs : List ℕ) → accepted bs ≡ true → Laid bs
-accepts-laid bs h = laid bs (and-parts (isOk (opening bs)) (isOk (tried rules bs)) h .0)
+accepts-laid bs h = laid bs (parts bs h .1)
+
+-- a checked module is sound
+pub checked-sound : (o : Opened) → accepted (bytesOf o) ≡ true → countsOf (bytesOf o) (o .counts) ≡ true → Sound o
+checked-sound o keeps same = record { laid = accepts-laid (bytesOf o) keeps; counted = counts-from (bytesOf o) (o .counts) same }
 
 next-ok : (q : Rule) (o : Option Place) (next : Result (Unit {0}) Values) → isOk (orNext q o next) ≡ true → (o ≡ None) × (isOk next ≡ true)
 next-ok q None next h = (refl, h)
@@ -184,8 +218,7 @@ module _ (bs : List ℕ) (ok : Laid bs) (all : (q : Rule) → Everywhere q bs) (
 -- an accepted module keeps the rules at every instruction
 pub accepts-kept : (bs : List ℕ) → accepted bs ≡ true → KeptEverywhere bs
 accepts-kept bs h r i lr li =
-    let p = and-parts (isOk (opening bs)) (isOk (tried rules bs)) h in
-    let all = rules-hold bs (p .1) in
+    let all = rules-hold bs (parts bs h .2) in
     let x = instruction (rowAt bs r i) in
     let e : instr bs r i ≡ Some x = cond-true (wellFormed (rowAt bs r i)) (Some x) None (all Form r i lr li) in
     (x, e, kept bs (accepts-laid bs h) all r i lr li x e)

@@ -2,7 +2,7 @@
 use mathlib.Core.Path.{_≡_, refl, sym, ap, _∙_}
 use mathlib.Core.Logic.{⊎-elim}
 use mathlib.Core.List.{List}
-use mathlib.Core.Bool.{Bool, true, false, cond, not, _&&_, _||_}
+use mathlib.Core.Bool.{Bool, true, false, not, _&&_, _||_}
 use Prim.Native.Nat.{ℕ, zero, suc, _+_, _-_, _*_, _≤_, _<_}
 use native.Mathlib.Omega.{arith}
 use lib.Dec.{eqb, leb}
@@ -20,12 +20,8 @@ use Rattle.module.specs.declared.opened.Counts.{Counts}
 use Rattle.module.specs.Bytes.{byte, two, four}
 use Rattle.module.specs.First.{firstFailing}
 use Rattle.module.specs.Layout.{routines, imageLength, count, before, lengthGiven, counts, countsRight, entryRight, provided, unlessWrong, opening}
+use Rattle.module.proofs.Firsts.{first-same}
 use Rattle.module.proofs.Opens.{laid}
-
--- tests that agree have the same first failure
-first-same : (f g : ℕ → Bool) (left k : ℕ) → ((j : ℕ) → j < k + left → f j ≡ g j) → firstFailing f left k ≡ firstFailing g left k
-first-same f g zero k e = refl
-first-same f g (suc left) k e = λ i. cond (e k (omega arith) i) (first-same f g left (k + 1) (λ j h. e j (omega arith)) i) (Some k)
 
 -- what is left of open where the length is that of no module
 abbrev long : List ℕ → Result Counts Values

@@ -10,3 +10,4 @@ pub mod Passes
 pub mod ShapeRows
 pub mod Spans
 pub mod Turns
+pub mod Unpacks

@@ -2,8 +2,7 @@
 use mathlib.Core.Path.{_≡_, refl, sym, ap, _∙_}
 use mathlib.Core.List.{List}
 use mathlib.Core.Bool.{Bool, true, false}
-use Prim.Native.Nat.{ℕ, zero, suc, _+_, _-_, _*_, _≤_, _<_}
-use native.Mathlib.Nat.{add-zero, add-suc}
+use Prim.Native.Nat.{ℕ, suc, _+_, _-_, _*_, _≤_, _<_}
 use native.Mathlib.Omega.{arith}
 use lib.Dec.{eqb, leb}
 use lib.ListN.{length}
@@ -20,7 +19,7 @@ use Rattle.module.specs.First.{firstFailing}
 use Rattle.module.specs.Laid.{Laid}
 use Rattle.module.specs.Layout.{routines, imageLength, offset, count, arguments, results, before, lengthGiven, counts, countsRight, entryRight, provided, unlessWrong, opening}
 use Rattle.module.specs.Told.{Sound, bytesOf}
-use Rattle.module.proofs.Firsts.{first-none}
+use Rattle.module.proofs.Firsts.{first-none, sum-mono}
 
 provided-ok : {X : Type 0} (b : Bool) (v : Values) (rest : Result X Values) → isOk (provided b v rest) ≡ true → (b ≡ true) × (isOk rest ≡ true)
 provided-ok true v rest h = (refl, h)
@@ -29,10 +28,6 @@ provided-ok false v rest h = absurd (false≢true h)
 entries-ok : {X : Type 0} (o : Option ℕ) (rest : Result X Values) → isOk (unlessWrong o rest) ≡ true → (o ≡ None) × (isOk rest ≡ true)
 entries-ok None rest h = (refl, h)
 entries-ok (Some r) rest h = absurd (false≢true h)
-
-pub before-mono : (bs : List ℕ) (r k : ℕ) → before bs r ≤ before bs (r + k)
-before-mono bs r zero = omega (arith, ap (before bs) (add-zero r))
-before-mono bs r (suc k) = let h = before-mono bs r k in omega (arith, h, ap (before bs) (add-suc r k))
 
 record Right (bs : List ℕ) (r : ℕ) : Type 0 where
   placed : offset bs r ≡ 4 + 8 * routines bs + 8 * before bs r
@@ -90,7 +85,7 @@ laid bs h =
         full = x .full;
         takes = x .takes;
         gives = x .gives;
-        inside = let e : suc r + (n - suc r) ≡ n = omega arith in omega (arith, before-mono bs (suc r) (n - suc r), ap (before bs) e);
+        inside = let e : suc r + (n - suc r) ≡ n = omega arith in omega (arith, sum-mono (count bs) (suc r) (n - suc r), ap (before bs) e);
       };
     }
 

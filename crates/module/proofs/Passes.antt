@@ -1,25 +1,21 @@
 -- A pass of one rule over the routines.
-use mathlib.Core.Path.{_≡_, refl, sym, ap, subst, _∙_}
+use mathlib.Core.Path.{_≡_, refl, ap, subst, _∙_}
 use mathlib.Core.Logic.{⊎-elim}
 use mathlib.Core.List.{List}
-use mathlib.Core.Bool.{true}
 use Prim.Native.Nat.{ℕ, zero, suc, _+_, _-_, _≤_, _<_}
 use native.Mathlib.Omega.{arith}
 use lib.ListN.{length, take, drop, length-append, length-drop}
 use Rattle.std.proofs.shelf.Counted.{length-map-counting}
 use Rattle.std.proofs.shelf.Lists.{take-all, drop-at, drop-append-le, take-append-le}
 use Rattle.std.proofs.shelf.Tests.{cases-order}
-use Rattle.std.specs.declared.option.Option.{Option}
-use Rattle.std.specs.declared.option.Option.the-variants.{Some, None}
-use Rattle.refusal.specs.declared.Place.{Place}
+use Rattle.std.specs.declared.option.Option.the-variants.{None}
 use Rattle.module.specs.declared.rule.Rule.{Rule}
 use Rattle.module.specs.Layout.{routines, count, before}
 use Rattle.module.specs.Ready.{Everywhere}
 use Rattle.module.specs.Rules.{holds}
 use Rattle.module.specs.Shape.{sheetRow, routineRows, rowsBefore}
-use Rattle.module.specs.Verdict.{breachIn, orLater, breach}
-use Rattle.module.proofs.Firsts.{first-none}
-use Rattle.module.proofs.Opens.{before-mono}
+use Rattle.module.specs.Verdict.{breach}
+use Rattle.module.proofs.Firsts.{place-none, sum-mono}
 
 module _ (bs : List ℕ) where
   pub rows-before-long : (n : ℕ) → length (rowsBefore bs n) ≡ before bs n
@@ -42,7 +38,7 @@ module _ (bs : List ℕ) where
       (λ e. subst (λ m. take (count bs r) (drop (before bs r) (rowsBefore bs (suc m))) ≡ routineRows bs r) e (own-part r))
       (⊎-elim
       (λ lt.
-      let sum : before bs (suc r) ≤ before bs (suc r + (n - suc r)) = before-mono bs (suc r) (n - suc r) in
+      let sum : before bs (suc r) ≤ before bs (suc r + (n - suc r)) = sum-mono (count bs) (suc r) (n - suc r) in
       let all : suc r + (n - suc r) ≡ n = omega arith in
       let room : before bs r + count bs r ≤ length (rowsBefore bs n) = omega (arith, sum, ap (before bs) all, l) in
       ap (take (count bs r)) (drop-append-le (before bs r) (rowsBefore bs n) (routineRows bs n) (omega arith))
@@ -51,26 +47,6 @@ module _ (bs : List ℕ) where
       (λ gt. absurd (omega arith)))
       (cases-order r n)
 
--- a pass at routine r of n, where o is the routine's first breach
-pub breach-step : (q : Rule) (bs : List ℕ) (n r : ℕ) (o : Option ℕ) → r < n → o ≡ breachIn q bs r → breach q bs (n - r) r ≡ orLater r o (breach q bs (n - (r + 1)) (r + 1))
-breach-step q bs n r o lt e =
-    let s : n - r ≡ suc (n - (r + 1)) = omega arith in
-    ap (λ l. breach q bs l r) s ∙ ap (λ x. orLater r x (breach q bs (n - (r + 1)) (r + 1))) (sym e)
-
 -- a rule without a breach holds everywhere
-module _ (q : Rule) (bs : List ℕ) where
-  later-none : (r : ℕ) (o : Option ℕ) (later : Option Place) → orLater r o later ≡ None → (o ≡ None) × (later ≡ None)
-  later-none r None later e = (refl, e)
-  later-none r (Some i) later e = absurd (grind arith)
-
-  breach-none : (left r : ℕ) → breach q bs left r ≡ None → (s i : ℕ) → r ≤ s → s < r + left → i < count bs s → holds q bs s i ≡ true
-  breach-none zero r e s i g h k = absurd (omega arith)
-  breach-none (suc left) r e s i g h k =
-      let p = later-none r (breachIn q bs r) (breach q bs left (r + 1)) e in
-      ⊎-elim
-      (λ a. first-none (holds q bs s) (count bs s) 0 (ap (breachIn q bs) a ∙ p .0) i (omega arith) (omega arith))
-      (⊎-elim (λ l. absurd (omega arith)) (λ l. breach-none left (r + 1) (p .1) s i (omega arith) (omega arith) k))
-      (cases-order s r)
-
-  pub everywhere : breach q bs (routines bs) 0 ≡ None → Everywhere q bs
-  everywhere e r i h k = breach-none (routines bs) 0 e r i (omega arith) (omega arith) k
+pub everywhere : (q : Rule) (bs : List ℕ) → breach q bs (routines bs) 0 ≡ None → Everywhere q bs
+everywhere q bs e r i h k = place-none (holds q bs) (count bs) (routines bs) 0 e r i (omega arith) (omega arith) k

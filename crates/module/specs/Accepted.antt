@@ -5,13 +5,14 @@ use Prim.Native.Nat.{ℕ}
 use lib.Dec.{eqb}
 use Rattle.std.specs.Results.{isOk}
 use Rattle.module.specs.declared.opened.Counts.{Counts}
+use Rattle.module.specs.Bytes.{octets}
 use Rattle.module.specs.Layout.{opening, routines, imageLength, total}
 use Rattle.module.specs.Rules.{rules}
 use Rattle.module.specs.Verdict.{tried}
 
--- they open, and keep all seven rules
+-- they are bytes that open, and keep all seven rules
 abbrev pub accepted : List ℕ → Bool
-accepted bs = isOk (opening bs) && isOk (tried rules bs)
+accepted bs = octets bs && (isOk (opening bs) && isOk (tried rules bs))
 
 -- the counts are those of the bytes
 abbrev pub countsOf : List ℕ → Counts → Bool

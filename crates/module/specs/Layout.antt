@@ -1,7 +1,7 @@
 -- The layout of a module's bytes, and what open answers on any bytes.
 use mathlib.Core.List.{List}
 use mathlib.Core.Bool.{Bool, cond, not, _&&_, _||_}
-use Prim.Native.Nat.{ℕ, zero, suc, _+_, _*_}
+use Prim.Native.Nat.{ℕ, _+_, _*_}
 use lib.Dec.{eqb, leb}
 use lib.ListN.{length}
 use Rattle.std.specs.declared.option.Option.{Option}
@@ -15,7 +15,7 @@ use Rattle.isa.specs.declared.row.Row.{Row}
 use Rattle.isa.specs.Form.{decoded, row}
 use Rattle.module.specs.declared.opened.Counts.{Counts}
 use Rattle.module.specs.Bytes.{byte, two, four}
-use Rattle.module.specs.First.{firstFailing}
+use Rattle.module.specs.First.{firstFailing, sumTo}
 
 -- N, the number of routines
 abbrev pub routines : List ℕ → ℕ
@@ -43,8 +43,7 @@ signature bs r = record { arguments = arguments bs r; results = results bs r }
 
 -- the instructions of the routines before r
 abbrev pub before : List ℕ → ℕ → ℕ
-before bs zero = 0
-before bs (suc r) = before bs r + count bs r
+before bs r = sumTo (count bs) r
 
 -- T, the number of instructions
 abbrev pub total : List ℕ → ℕ

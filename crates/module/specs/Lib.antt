@@ -8,4 +8,5 @@ pub mod Ready
 pub mod Rules
 pub mod Shape
 pub mod Told
+pub mod Unpack
 pub mod Verdict

@@ -1,7 +1,7 @@
 -- What check answers, and what it leaves in the sheet.
 use mathlib.Core.List.{List, [], _∷_, _++_}
 use mathlib.Core.Bool.{cond, _&&_}
-use Prim.Native.Nat.{ℕ, zero, suc, _+_}
+use Prim.Native.Nat.{ℕ, _+_}
 use lib.Dec.{leb}
 use lib.ListN.{length, drop, replicate}
 use Rattle.std.specs.Results.{isOk}
@@ -14,26 +14,18 @@ use Rattle.refusal.specs.declared.Place.{Place}
 use Rattle.module.specs.declared.opened.Counts.{Counts}
 use Rattle.module.specs.declared.rule.Rule.{Rule}
 use Rattle.module.specs.declared.shape.ShapeRow.{ShapeRow}
-use Rattle.module.specs.First.{firstFailing}
+use Rattle.module.specs.First.{firstFailing, firstPlace}
 use Rattle.module.specs.Layout.{routines, count, total, opening, provided}
 use Rattle.module.specs.Rules.{holds, number, rules}
 use Rattle.module.specs.Shape.{rowsBefore}
-
-abbrev pub place : ℕ → ℕ → Place
-place r i = record { routine = r; instruction = i }
 
 -- the first instruction of routine r that breaks the rule
 abbrev pub breachIn : Rule → List ℕ → ℕ → Option ℕ
 breachIn q bs r = firstFailing (holds q bs r) (count bs r) 0
 
-abbrev pub orLater : ℕ → Option ℕ → Option Place → Option Place
-orLater r (Some i) later = Some (place r i)
-orLater r None later = later
-
 -- the first place that breaks the rule, in the left routines from r on
 abbrev pub breach : Rule → List ℕ → ℕ → ℕ → Option Place
-breach q bs zero r = None
-breach q bs (suc left) r = orLater r (breachIn q bs r) (breach q bs left (r + 1))
+breach q bs left r = firstPlace (holds q bs) (count bs) left r
 
 abbrev pub orNext : Rule → Option Place → Result (Unit {0}) Values → Result (Unit {0}) Values
 orNext q None next = next

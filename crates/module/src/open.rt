@@ -4,6 +4,7 @@ ghost use lib.ListN.{length};
 ghost use Rattle.std.specs.Vec.{made};
 ghost use Rattle.std.specs.declared.result.Result.the-variants.{Ok};
 ghost use Rattle.refusal.specs.Values.{told};
+ghost use Rattle.module.specs.Bytes.{Octets};
 ghost use Rattle.module.specs.First.{firstFailing};
 ghost use Rattle.module.specs.Layout.{routines as routinesOf, before, counts, entryRight, unlessWrong, opening};
 ghost use Rattle.module.specs.Told.{bytesOf, counted};
@@ -44,6 +45,7 @@ fn sum_entries(bytes: &[u8], routines: usize) -> Result<usize, Refusal>
     requires few { ⌜ routines ≤ 64 ⌝ }
     ensures verdict { λ r. ⌜ told r ≡ unlessWrong (firstFailing (entryRight (now (bytes .entry))) routines 0) (Ok (before (now (bytes .entry)) routines)) ⌝ }
     ensures short { λ r. ⌜ made r (λ t. t ≤ 4096) ⌝ }
+    ensures octets { λ _. ⌜ Octets (now (bytes .entry)) ⌝ }
 {
     let mut sum = 0;
     for routine in 0..routines {
@@ -60,6 +62,7 @@ pub fn open(bytes: &[u8]) -> Result<Opened<'_>, Refusal>
     ensures verdict { λ r. ⌜ counted r ≡ opening (now (bytes .entry)) ⌝ }
     ensures shows { λ r. ⌜ made r (λ o. bytesOf o ≡ now (bytes .entry)) ⌝ }
     ensures counts { λ r. ⌜ made r (λ o. o .counts ≡ counts (now (bytes .entry))) ⌝ }
+    ensures octets { λ r. ⌜ made r (λ o. Octets (bytesOf o)) ⌝ }
 {
     if bytes.len() < 4 {
         return Err(Refusal::Truncated);

@@ -14,7 +14,7 @@ use isa::decode::decode;
 use isa::instr::Instr;
 use isa::row::Row;
 
-fn row_from(bytes: &[u8], at: usize) -> Row
+pub(crate) fn row_from(bytes: &[u8], at: usize) -> Row
     requires { ⌜ at + 8 ≤ length (now bytes) ⌝ }
     ensures { λ r. ⌜ r ≡ rowFrom (now (bytes .entry)) at ⌝ }
 {

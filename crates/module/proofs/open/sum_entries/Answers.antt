@@ -1,6 +1,7 @@
 use mathlib.Core.Path.{_≡_, sym, ap, _∙_}
 use mathlib.Core.Bool.{true}
 use Prim.Native.Nat.{_+_, _≤_}
+use borrow.Author.Needs.{needs}
 use native.Mathlib.Numerals.{add-one}
 use native.Mathlib.Omega.{arith}
 use Rattle.std.proofs.shelf.Ways.{tells}
@@ -14,7 +15,7 @@ returns-then-not-entry-right c =
     let bs = c .args .bytes .now in
     let n = c .args .routines in
     let e = first-stop (entryRight bs) n (c .loop-routine .routine) (c .loop-routine-test .taken) (sym (c .if-not-entry-right .ensures tt)) in
-    record { verdict = ap (λ o. unlessWrong o (Ok (before bs n))) (sym e ∙ c .loop-routine .inv .2); short = tt }
+    record { verdict = ap (λ o. unlessWrong o (Ok (before bs n))) (sym e ∙ c .loop-routine .inv .2); short = tt; octets = λ k. omega (arith, c .typed .bytes k) }
 
 pub loop-routine-again : need.loop-routine-again
 loop-routine-again c =
@@ -28,3 +29,6 @@ loop-routine-again c =
       omega (arith, sum, read, c .loop-routine .inv .0),
       sym (first-more (entryRight bs) (c .args .routines) r (c .loop-routine-test .taken) ok) ∙ c .loop-routine .inv .2,
     )
+
+pub returns : need.returns
+returns c = record { verdict = search needs; short = search needs; octets = λ k. omega (arith, c .typed .bytes k) }

@@ -6,8 +6,8 @@ use lib.ListN.{length, take, drop}
 use Rattle.std.specs.declared.option.Option.the-variants.{Some, None}
 use Rattle.module.specs.Layout.{routines, count, before}
 use Rattle.module.specs.Rules.{holds}
-use Rattle.module.proofs.Firsts.{first-in}
-use Rattle.module.proofs.Passes.{rows-before-long, rows-part, breach-step}
+use Rattle.module.proofs.Firsts.{first-in, place-step}
+use Rattle.module.proofs.Passes.{rows-before-long, rows-part}
 use Rattle.module.proofs.opened.Opened.breach.Needs as need
 use Rattle.module.proofs.opened.Opened.breach.Needs.{After-count}
 
@@ -47,7 +47,7 @@ returns-in-Some c =
     let bs = c .args .self .now .bytes .now in
     let r = c .loop-routine .routine in
     let lt = within (need.at·returns-in-Some c .After-count) in
-    sym (breach-step (c .args .rule) bs (routines bs) r (Some (c .in-Some .i)) lt (c .in-Some .ensures tt)) ∙ c .loop-routine .inv .1
+    sym (place-step (holds (c .args .rule) bs) (count bs) (routines bs) r (Some (c .in-Some .i)) lt (c .in-Some .ensures tt)) ∙ c .loop-routine .inv .1
 
 pub loop-routine-again : need.loop-routine-again
 loop-routine-again c =
@@ -55,5 +55,5 @@ loop-routine-again c =
     let r = c .loop-routine .routine in
     let lt = within (need.at·loop-routine-again c .After-count) in (
       omega (arith, ap (before bs) (add-one r), c .loop-routine .inv .0, c .count .ensures),
-      sym (breach-step (c .args .rule) bs (routines bs) r None lt (c .in-rest .ensures tt)) ∙ c .loop-routine .inv .1,
+      sym (place-step (holds (c .args .rule) bs) (count bs) (routines bs) r None lt (c .in-rest .ensures tt)) ∙ c .loop-routine .inv .1,
     )

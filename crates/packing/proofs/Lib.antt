@@ -1,0 +1,11 @@
+pub mod Again
+pub mod Blocks
+pub mod Digits
+pub mod Formed
+pub mod Parts
+pub mod Passed
+pub mod Recovers
+pub mod Repack
+pub mod Shown
+pub mod Sums
+pub mod Trips
