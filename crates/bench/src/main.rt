@@ -1,5 +1,7 @@
 //! bench: says whether the module on standard input is accepted, and how much there is in it, or why it is refused.
 
+#![tactic(auto)]
+
 ghost use Rattle.std.specs.Prelude.{◌≡◌, length, IfOk, string_bytes};
 ghost use Rattle.refusal.specs.Values.{told};
 ghost use Rattle.module.specs.Verdict.{sheet_after};

@@ -1,5 +1,7 @@
 //! Tests of the other crates, by the public calls.
 
+#![tactic(auto)]
+
 #[cfg(test)]
 mod answers;
 #[cfg(test)]

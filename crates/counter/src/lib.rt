@@ -1,5 +1,7 @@
 //! The host of one's own that docs/HOSTS.md works through: a counter of parcels.
 
+#![tactic(auto)]
+
 ghost use Rattle.std.specs.Prelude.{◌≡◌};
 ghost use Rattle.counter.specs.Counter.{counter_ports, ports_with, counter_rule, counter-lawful};
 

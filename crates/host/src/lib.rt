@@ -1,5 +1,7 @@
 //! Hosts: what a drive reads, writes, lets advance and brings to rest. A host is known by its ports and its tick rule.
 
+#![tactic(auto)]
+
 ghost use Rattle.std.specs.Prelude.{◌≡◌, List};
 ghost use Rattle.host.specs.declared.port.Port.{Port};
 ghost use Rattle.host.specs.Refusals.{told};

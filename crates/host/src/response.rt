@@ -13,10 +13,10 @@ use crate::table::TableHost;
 
 /// Lets a host advance so many times. Only values of sense ports change.
 pub fn advance<H: Host>(host: &mut H, ticks: u32)
-    ensures ports { ports host.new ≡ ticked ticks (rule host.old) (ports host.old) }
-    ensures senses { AllZip Sensed (ports host.old) (ports host.new) }
-    ensures rule { rule host.new ≡ rule host.old }
-    ensures base { base host.new ≡ base host.old }
+    ensures ports { H.ports host.new ≡ ticked ticks (H.rule host.old) (H.ports host.old) }
+    ensures senses { AllZip Sensed (H.ports host.old) (H.ports host.new) }
+    ensures rule { H.rule host.new ≡ H.rule host.old }
+    ensures base { H.base host.new ≡ H.base host.old }
 {
     for _tick in 0..ticks {
         host.tick();
@@ -32,10 +32,10 @@ pub fn respond<H: Host>(
     ticks: u32,
     shown: usize,
 ) -> Result<u32, HostRefusal>
-    ensures answer { told result ≡ responding (rule host.old) (ports host.old) p v ticks shown }
-    ensures ports { ports host.new ≡ responded (rule host.old) (ports host.old) p v ticks shown }
-    ensures rule { rule host.new ≡ rule host.old }
-    ensures base { base host.new ≡ base host.old }
+    ensures answer { told result ≡ responding (H.rule host.old) (H.ports host.old) p v ticks shown }
+    ensures ports { H.ports host.new ≡ responded (H.rule host.old) (H.ports host.old) p v ticks shown }
+    ensures rule { H.rule host.new ≡ H.rule host.old }
+    ensures base { H.base host.new ≡ H.base host.old }
 {
     host.read(shown)?;
     host.write(p, v)?;

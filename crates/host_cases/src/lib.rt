@@ -1,5 +1,7 @@
 //! Tests of the hosts, by the calls that every host has.
 
+#![tactic(auto)]
+
 #[cfg(test)]
 mod axis_tests;
 #[cfg(test)]

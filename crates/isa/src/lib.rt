@@ -1,5 +1,7 @@
 //! Instructions: as rows of five fields, and decoded.
 
+#![tactic(auto)]
+
 pub mod access;
 pub mod decode;
 pub mod encode;

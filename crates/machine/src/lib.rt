@@ -1,5 +1,7 @@
 //! The machine: nested routines with their registers, memory, and one step over any host.
 
+#![tactic(auto)]
+
 mod access;
 mod begin;
 pub mod frame;

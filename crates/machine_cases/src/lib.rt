@@ -1,5 +1,7 @@
 //! Tests of what a run is made of: words, faults, memory and steps.
 
+#![tactic(auto)]
+
 #[cfg(test)]
 mod faults_tests;
 #[cfg(test)]

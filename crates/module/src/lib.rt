@@ -1,5 +1,7 @@
 //! Modules: opened, checked and taken.
 
+#![tactic(auto)]
+
 mod bytes;
 mod check;
 pub mod checked;

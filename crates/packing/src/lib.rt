@@ -1,5 +1,7 @@
 //! Modules put together from entries, instruction rows and an image.
 
+#![tactic(auto)]
+
 pub mod pack;
 pub mod round;
 mod test;

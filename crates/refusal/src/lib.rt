@@ -1,5 +1,7 @@
 //! Why a call was refused, and whose doing it was.
 
+#![tactic(auto)]
+
 ghost use Rattle.std.specs.Prelude.{◌≡◌};
 ghost use Rattle.refusal.specs.Values.{values_of};
 

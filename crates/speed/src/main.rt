@@ -1,6 +1,8 @@
 //! speed: times the check of modules of growing length, and unpack and pack together. The times go to standard error; the
 //! argument is how often each is done.
 
+#![tactic(auto)]
+
 use anyhow::anyhow;
 use isa::encode::encode;
 use isa::instr::{Instr, Operation, Test};

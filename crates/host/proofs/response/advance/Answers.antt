@@ -12,7 +12,7 @@ loop-tick-preserved g c =
     let t = c.tick.ensures in
     let inv = c.loop-tick.invariant in
     let same = inv.1 in (
-      t.ports ∙ (λ i. same i (inv.0 i)) ∙ sym (ticked-more (m.rule c.args.host.now) c.loop-tick.-tick (m.ports c.args.host.now)),
+      t.ports ∙ (λ i. same i (inv.0 i)) ∙ sym (ticked-more (m.rule c.args.host.now) c.loop-tick._tick (m.ports c.args.host.now)),
       t.rule ∙ same,
       t.base ∙ inv.2,
     )
@@ -22,7 +22,7 @@ returns g c =
     let m = g.H.Host in
     let host = c.args.host.now in
     let inv = c.loop-tick.invariant in
-    let all : c.loop-tick.-tick ≡ c.args.ticks = omega arith in
+    let all : c.loop-tick._tick ≡ c.args.ticks = omega arith in
     let after = inv.0 ∙ ap (λ n. ticked n (m.rule host) (m.ports host)) all in
     let P : List Port → Type 0 = λ ps. AllZip Sensed (m.ports host) ps in
     record {

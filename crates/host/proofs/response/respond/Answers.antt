@@ -6,17 +6,17 @@ use Rattle.host.specs.Response.{ticked}
 use Rattle.host.proofs.Ticks.{answer-refused, ports-refused, answer-read, ports-read}
 use Rattle.host.proofs.response.respond.Goals as goal
 
-pub returns-in-err-write : goal.returns-in-err-write
-returns-in-err-write g c =
+pub returns-in_err-write : goal.returns-in_err-write
+returns-in_err-write g c =
     let m = g.H.Host in
     let a = c.args in
     let host = a.host.now in
     let w = c.write.ensures in
-    let e = c.in-err-write.field-0.0 in
-    let found : Ok c.in-ok-read.field-0 ≡ reading (m.ports host) a.shown = c.in-ok-read.ensures.answer in
-    let refused : Err (values_of e) ≡ writing (m.ports host) a.p a.v = c.in-err-write.ensures.answer in
-    let r = err_from_is_err_and c.from-residual-in-err-write.result c.from-residual-in-err-write.ensures.1 in
-    let said : c.from-residual-in-err-write.result ≡ Err e = cc (r.1, r.2) in
+    let e = c.in_err-write.field-0.0 in
+    let found : Ok c.in_ok-read.field-0 ≡ reading (m.ports host) a.shown = c.in_ok-read.ensures.answer in
+    let refused : Err (values_of e) ≡ writing (m.ports host) a.p a.v = c.in_err-write.ensures.answer in
+    let r = err_from_is_err_and c.from_residual-in_err-write.result c.from_residual-in_err-write.ensures.1 in
+    let said : c.from_residual-in_err-write.result ≡ Err e = cc (r.1, r.2) in
     record {
       answer = ap told said ∙ answer-refused (m.rule host) (m.ports host) a.p a.v a.ticks a.shown _ found (values_of e) refused;
       ports = w.ports ∙ ports-refused (m.rule host) (m.ports host) a.p a.v a.ticks a.shown _ found (values_of e) refused;
@@ -31,8 +31,8 @@ returns g c =
     let host = a.host.now in
     let w = c.write.ensures in
     let t = c.advance.ensures in
-    let found : Ok c.in-ok-read.field-0 ≡ reading (m.ports host) a.shown = c.in-ok-read.ensures.answer in
-    let taken : Ok tt ≡ writing (m.ports host) a.p a.v = c.in-ok-write.ensures.answer in
+    let found : Ok c.in_ok-read.field-0 ≡ reading (m.ports host) a.shown = c.in_ok-read.ensures.answer in
+    let taken : Ok tt ≡ writing (m.ports host) a.p a.v = c.in_ok-write.ensures.answer in
     let after : m.ports c.advance.new.host ≡ ticked a.ticks (m.rule host) (written (m.ports host) a.p a.v) =
     t.ports ∙ (λ i. ticked a.ticks (w.rule i) (w.ports i)) in
     record {

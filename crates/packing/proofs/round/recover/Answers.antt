@@ -7,36 +7,36 @@ use Rattle.packing.specs.Shows.{returned}
 use Rattle.packing.proofs.Recovers.{written, unopened, refused-by-check, sheet-then, recovered-verdict, entries-back, rows_back, made-always}
 use Rattle.packing.proofs.round.recover.Goals as goal
 
-pub returns-in-err-opened : goal.returns-in-err-opened
-returns-in-err-opened c =
+pub returns-in_err-opened : goal.returns-in_err-opened
+returns-in_err-opened c =
     let es = c.args.entries.now in
     let rs = c.args.rows.now in
     let im = c.args.image.now in
     let out = c.args.output.now in
-    let done = c.in-ok-size.ensures in
-    let n = c.in-ok-size.size in
+    let done = c.in_ok-size.ensures in
+    let n = c.in_ok-size.size in
     let all : n - 0 ≡ n = omega arith in
-    absurd (unopened es rs im (length out) n done.verdict done.shows out _ (n - 0) refl done.output all _ c.in-err-opened.ensures.verdict)
+    absurd (unopened es rs im (length out) n done.verdict done.shows out _ (n - 0) refl done.output all _ c.in_err-opened.ensures.verdict)
 
-pub returns-in-err-check : goal.returns-in-err-check
-returns-in-err-check c =
+pub returns-in_err-check : goal.returns-in_err-check
+returns-in_err-check c =
     let es = c.args.entries.now in
     let rs = c.args.rows.now in
     let im = c.args.image.now in
     let out = c.args.output.now in
-    let done = c.in-ok-size.ensures in
-    let n = c.in-ok-size.size in
+    let done = c.in_ok-size.ensures in
+    let n = c.in_ok-size.size in
     let all : n - 0 ≡ n = omega arith in
-    let bytes = c.in-ok-opened.ensures.shows ∙ written es rs im (length out) n done.verdict done.shows out _ (n - 0) refl done.output all in
-    let p = err_from_is_err_and c.from-residual-in-err-check.result c.from-residual-in-err-check.ensures.1 in
-    let said = c.in-err-check.ensures in
+    let bytes = c.in_ok-opened.ensures.shows ∙ written es rs im (length out) n done.verdict done.shows out _ (n - 0) refl done.output all in
+    let p = err_from_is_err_and c.from_residual-in_err-check.result c.from_residual-in_err-check.ensures.1 in
+    let said = c.in_err-check.ensures in
     record {
       verdict = ap told p.1 ∙ ap (λ x. Err (values_of x)) p.2 ∙ refused-by-check es rs im (length out) n done.verdict done.shows _ _ _ _ (said.verdict ∙ ap (λ b. checking b (length c.args.sheet.now)) bytes);
       output = done.output;
       sheet = sheet-then es rs im (length out) n done.verdict done.shows _ _ _ bytes said.sheet;
-      back-entries = ap (λ r. returned (told r) es c.args.back-entries.now) (sym p.1);
-      back-rows = ap (λ r. returned (told r) rs c.args.back-rows.now) (sym p.1);
-      shows = IfOk-from_err _ _ c.from-residual-in-err-check.ensures.0;
+      back_entries = ap (λ r. returned (told r) es c.args.back_entries.now) (sym p.1);
+      back_rows = ap (λ r. returned (told r) rs c.args.back_rows.now) (sym p.1);
+      shows = IfOk-from_err _ _ c.from_residual-in_err-check.ensures.0;
     }
 
 pub returns : goal.returns
@@ -45,18 +45,18 @@ returns c =
     let rs = c.args.rows.now in
     let im = c.args.image.now in
     let out = c.args.output.now in
-    let done = c.in-ok-size.ensures in
-    let n = c.in-ok-size.size in
+    let done = c.in_ok-size.ensures in
+    let n = c.in_ok-size.size in
     let all : n - 0 ≡ n = omega arith in
-    let bytes = c.in-ok-opened.ensures.shows ∙ written es rs im (length out) n done.verdict done.shows out _ (n - 0) refl done.output all in
+    let bytes = c.in_ok-opened.ensures.shows ∙ written es rs im (length out) n done.verdict done.shows out _ (n - 0) refl done.output all in
     let taken = ap bytes_of c.take.ensures ∙ bytes in
-    let said = c.in-ok-check.ensures in
+    let said = c.in_ok-check.ensures in
     let back = c.unpack.ensures in
     record {
       verdict = back.verdict ∙ recovered-verdict es rs im (length out) n done.verdict done.shows _ _ _ _ taken (said.verdict ∙ ap (λ b. checking b (length c.args.sheet.now)) bytes);
       output = done.output;
       sheet = sheet-then es rs im (length out) n done.verdict done.shows _ _ _ bytes said.sheet;
-      back-entries = entries-back es rs im (length out) n done.verdict done.shows _ _ _ _ taken back.verdict _ back.entries;
-      back-rows = rows_back es rs im (length out) n done.verdict done.shows _ _ _ _ taken back.verdict _ back.rows;
+      back_entries = entries-back es rs im (length out) n done.verdict done.shows _ _ _ _ taken back.verdict _ back.entries;
+      back_rows = rows_back es rs im (length out) n done.verdict done.shows _ _ _ _ taken back.verdict _ back.rows;
       shows = made-always _ done.shows;
     }

@@ -6,11 +6,11 @@ use Rattle.module.proofs.Accepts.{accepts-octets, accepts-laid, accepts-kept}
 use Rattle.packing.proofs.Trips.{refused-verdict, refused-output, trip-verdict, trip-output}
 use Rattle.packing.proofs.round.repack.Goals as goal
 
-pub returns-in-err-routines : goal.returns-in-err-routines
-returns-in-err-routines c =
-    let p = err_from_is_err_and c.from-residual.result c.from-residual.ensures.1 in
+pub returns-in_err-routines : goal.returns-in_err-routines
+returns-in_err-routines c =
+    let p = err_from_is_err_and c.from_residual.result c.from_residual.ensures.1 in
     let bs = bytes_of c.args.checked.now.opened in
-    let said = c.in-err-routines.ensures in
+    let said = c.in_err-routines.ensures in
     record {
       verdict = ap told p.1 ∙ ap (λ x. Err (values_of x)) p.2 ∙ refused-verdict bs _ _ _ said.verdict _;
       entries = said.entries;
@@ -25,9 +25,9 @@ returns c =
     let small = accepts-octets bs m.keeps in
     let laid = accepts-laid bs m.keeps in
     let kept = accepts-kept bs m.keeps in
-    let said = c.in-ok-routines.ensures in
-    let n = c.in-ok-routines.routines in
-    let t = c.in-ok-routines.total in
+    let said = c.in_ok-routines.ensures in
+    let n = c.in_ok-routines.routines in
+    let t = c.in_ok-routines.total in
     let all-n : n - 0 ≡ n = omega arith in
     let all-t : t - 0 ≡ t = omega arith in
     record {

@@ -5,13 +5,13 @@ use Rattle.packing.proofs.Blocks.{block_more}
 use Rattle.packing.proofs.Sums.{inside}
 use Rattle.packing.proofs.write.write_entries.Goals as goal
 
-pub overflow-cast-offset : goal.overflow-cast-offset
-overflow-cast-offset c =
+pub overflow_cast-offset : goal.overflow_cast-offset
+overflow_cast-offset c =
     let es = c.args.entries.now in
     omega (arith, c.loop-r.invariant.0, inside es c.loop-r.r c.loop-r-test.true, c.requires.few, c.requires.short)
 
-pub overflow-add-offset-in-loop-r : goal.overflow-add-offset-in-loop-r
-overflow-add-offset-in-loop-r c =
+pub overflow_add-offset-in-loop-r : goal.overflow_add-offset-in-loop-r
+overflow_add-offset-in-loop-r c =
     let es = c.args.entries.now in
     omega (arith, c.loop-r.invariant.0, inside es c.loop-r.r c.loop-r-test.true, c.requires.few, c.requires.short)
 
@@ -20,9 +20,9 @@ loop-r-preserved c =
     let es = c.args.entries.now in
     let r = c.loop-r.r in
     let rest = low2 (entry_at es r).count ++ ((entry_at es r).arguments ∷ (entry_at es r).results ∷ []) in
-    let bytes = c.write-entry.ensures ∙ ap (λ o. low4 o ++ rest) c.loop-r.invariant.0 in (
+    let bytes = c.write_entry.ensures ∙ ap (λ o. low4 o ++ rest) c.loop-r.invariant.0 in (
       omega (arith, c.loop-r.invariant.0, ap (before es) (add-one r)),
-      block_more (entry_bytes es) c.loop-r.part c.write-entry.new.part r _ c.loop-r.invariant.1 bytes (ap length bytes) (omega (arith, c.requires.room, c.loop-r-test.true)),
+      block_more (entry_bytes es) c.loop-r.part c.write_entry.new.part r _ c.loop-r.invariant.1 bytes (ap length bytes) (omega (arith, c.requires.room, c.loop-r-test.true)),
     )
 
 pub returns : goal.returns

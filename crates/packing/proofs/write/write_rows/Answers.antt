@@ -7,7 +7,7 @@ use Rattle.packing.proofs.write.write_rows.Goals as goal
 pub loop-k-preserved : goal.loop-k-preserved
 loop-k-preserved c =
     let rs = c.args.rows.now in
-    block_more (λ j. row_bytes (row_at rs j)) c.loop-k.part c.write-row.new.part c.loop-k.k _ c.loop-k.invariant c.write-row.ensures (ap length c.write-row.ensures) (omega arith)
+    block_more (λ j. row_bytes (row_at rs j)) c.loop-k.part c.write_row.new.part c.loop-k.k _ c.loop-k.invariant c.write_row.ensures (ap length c.write_row.ensures) (omega arith)
 
 pub returns : goal.returns
 returns c =

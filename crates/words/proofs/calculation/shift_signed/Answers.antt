@@ -4,5 +4,5 @@ use Rattle.words.proofs.calculation.shift_signed.Goals as goal
 
 pub returns-then-c-lt32 : goal.returns-then-c-lt32
 returns-then-c-lt32 c =
-    c.cast-unsigned.ensures
-    ∙ shifted-is c.args.b c.args.c c.cast-signed.result (omega arith) (omega arith) c.cast-signed.type-inv c.cast-signed.ensures
+    c.cast_unsigned.ensures
+    ∙ shifted-is c.args.b c.args.c c.cast_signed.result (omega arith) (omega arith) c.cast_signed.type_inv c.cast_signed.ensures

@@ -5,7 +5,7 @@ use Rattle.words.proofs.division.divide.Goals as goal
 pub returns : goal.returns
 returns c =
     record {
-      value = c.part-of.ensures;
+      value = c.part_of.ensures;
       law = leaves c.args.kind c.args.b c.args.c c.ranges.c.fits;
       examples = record {
         quotient_towards_zero = refl;

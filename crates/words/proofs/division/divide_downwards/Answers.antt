@@ -9,8 +9,8 @@ returns-else-x-y c =
     let y = c.args.y in
     let fx = c.ranges.x in
     let fy = c.ranges.y in
-    let ax = c.unsigned-abs.ensures.value ∙ ap nat_abs (to_z-of_z w32 x fx) in
-    let ay = c.unsigned-abs-else-x-y.ensures.value ∙ ap nat_abs (to_z-of_z w32 y fy) in
-    downwards-is x y c.div-ceil.result c.wrapping-neg.result (simp to_z-of_z at c.if-x-y.false)
-    (omega (arith, ints)) c.div-ceil.type-inv c.wrapping-neg.type-inv
-    (c.div-ceil.ensures ∙ (λ i. ax i / ay i + min 1 (ax i % ay i))) c.wrapping-neg.ensures
+    let ax = c.unsigned_abs.ensures.value ∙ ap nat_abs (to_z-of_z w32 x fx) in
+    let ay = c.unsigned_abs-else-x-y.ensures.value ∙ ap nat_abs (to_z-of_z w32 y fy) in
+    downwards-is x y c.div_ceil.result c.wrapping_neg.result (simp to_z-of_z at c.if-x-y.false)
+    (omega (arith, ints)) c.div_ceil.type_inv c.wrapping_neg.type_inv
+    (c.div_ceil.ensures ∙ (λ i. ax i / ay i + min 1 (ax i % ay i))) c.wrapping_neg.ensures

@@ -10,39 +10,40 @@ use Rattle.faults.proofs.Newest.{add-room, add-full, length-full}
 use Rattle.faults.proofs.list.FaultList.add.Goals as goal
 
 -- a full list
-pub invariant-of-self : goal.invariant-of-self
-invariant-of-self c =
+pub invariant_of-self : goal.invariant_of-self
+invariant_of-self c =
     let list = c.args.self.now in
     let rows = rows_of list.table in
     let new = unmarked (trip_of c.args.cause c.args.place) in
-    let pushed : rows_of c.push-out.new.self ≡ drop 1 rows ++ (new ∷ []) = c.push-out.ensures in
-    let kept = ap (take list.count) pushed ∙ add-full rows new list.whole list.count c.if-self-eq-MOST-FAULTS.true in (
-      list.few,
-      (ap length pushed ∙ length-full rows new list.whole, (ap marked_first kept ∙ first-newest new refl (faults_of list) list.sorted, tt)),
-    )
+    let pushed : rows_of c.push_out.new.self ≡ drop 1 rows ++ (new ∷ []) = c.push_out.ensures in
+    let kept = ap (take list.count) pushed ∙ add-full rows new list.whole list.count c.if-self-eq-MOST_FAULTS.true in
+    record {
+      few = list.few;
+      whole = ap length pushed ∙ length-full rows new list.whole;
+      sorted = ap marked_first kept ∙ first-newest new refl (faults_of list) list.sorted;
+    }
 
-pub returns-then-self-eq-MOST-FAULTS : goal.returns-then-self-eq-MOST-FAULTS
-returns-then-self-eq-MOST-FAULTS c =
+pub returns-then-self-eq-MOST_FAULTS : goal.returns-then-self-eq-MOST_FAULTS
+returns-then-self-eq-MOST_FAULTS c =
     let list = c.args.self.now in
     let rows = rows_of list.table in
     let new = unmarked (trip_of c.args.cause c.args.place) in
-    let pushed : rows_of c.push-out.new.self ≡ drop 1 rows ++ (new ∷ []) = c.push-out.ensures in
-    ap (take list.count) pushed ∙ add-full rows new list.whole list.count c.if-self-eq-MOST-FAULTS.true
+    let pushed : rows_of c.push_out.new.self ≡ drop 1 rows ++ (new ∷ []) = c.push_out.ensures in
+    ap (take list.count) pushed ∙ add-full rows new list.whole list.count c.if-self-eq-MOST_FAULTS.true
 
 -- a list with room
-pub invariant-of-self-2 : goal.invariant-of-self-2
-invariant-of-self-2 c =
+pub invariant_of-self-2 : goal.invariant_of-self-2
+invariant_of-self-2 c =
     let list = c.args.self.now in
     let rows = rows_of list.table in
     let new = unmarked (trip_of c.args.cause c.args.place) in
     let put : rows_of c.put.new.self ≡ set rows list.count new = c.put.ensures in
-    let kept = ap (take (list.count + 1)) put ∙ add-room rows new list.whole list.count (omega arith) in (
-      omega arith,
-      (
-        ap length put ∙ length-set rows list.count new ∙ list.whole,
-        (ap marked_first kept ∙ first-newest new refl (faults_of list) list.sorted, tt),
-      ),
-    )
+    let kept = ap (take (list.count + 1)) put ∙ add-room rows new list.whole list.count (omega arith) in
+    record {
+      few = omega arith;
+      whole = ap length put ∙ length-set rows list.count new ∙ list.whole;
+      sorted = ap marked_first kept ∙ first-newest new refl (faults_of list) list.sorted;
+    }
 
 pub returns : goal.returns
 returns c =

@@ -3,8 +3,8 @@ use Rattle.host.specs.Ports.{most_ports}
 use Rattle.host.proofs.Fronts.{read_past, front_read, in_rows}
 use Rattle.host.proofs.table.TableHostHost.read.Goals as goal
 
-pub offset-bounds-self-p : goal.offset-bounds-self-p
-offset-bounds-self-p c = let h = simp length-take at c.count.ensures in omega arith
+pub offset_bounds-self-p : goal.offset_bounds-self-p
+offset_bounds-self-p c = let h = simp length-take at c.count.ensures in omega arith
 
 pub bounds-self-p : goal.bounds-self-p
 bounds-self-p c = in_rows most_ports c.args.self.now.rows.now c.args.p (omega arith)

@@ -4,8 +4,8 @@ use Rattle.host.proofs.Fronts.{in_rows}
 use Rattle.host.proofs.Sweep.{swept, length-swept, swept-read, swept-more, swept-front, swept-back}
 use Rattle.host.proofs.table.TableHostHost.rest.Goals as goal
 
-pub offset-bounds-self-p : goal.offset-bounds-self-p
-offset-bounds-self-p c = let h = simp length-take at c.count-p-end.ensures in omega arith
+pub offset_bounds-self-p : goal.offset_bounds-self-p
+offset_bounds-self-p c = let h = simp length-take at c.count-p-end.ensures in omega arith
 
 pub bounds-self-p : goal.bounds-self-p
 bounds-self-p c =

@@ -10,8 +10,8 @@ returns-then-p-count c =
     let h : length (take most_ports rows) ≤ c.args.p = omega arith in
     record { answer = sym (write-past _ _ h _); ports = sym (written-past (take most_ports rows) _ h _); rule = refl; base = refl }
 
-pub offset-bounds-self-p : goal.offset-bounds-self-p
-offset-bounds-self-p c = let h = simp length-take at c.count.ensures in omega arith
+pub offset_bounds-self-p : goal.offset_bounds-self-p
+offset_bounds-self-p c = let h = simp length-take at c.count.ensures in omega arith
 
 pub bounds-self-p : goal.bounds-self-p
 bounds-self-p c = in_rows most_ports c.args.self.now.rows.now c.args.p (omega arith)
@@ -27,5 +27,5 @@ returns c =
       answer = answer ∙ sym (front-write most_ports rows p h c.args.v);
       ports = ap (λ row. take most_ports (set rows p row)) port ∙ front-written most_ports rows p h c.args.v;
       rule = refl;
-      base = ap (λ past. (c.args.self.now.rows.name, past)) (drop-set-lt most_ports rows p _ (inside most_ports rows p h));
+      base = ap (λ past. (c.args.self.now.rows.ghost_name, past)) (drop-set-lt most_ports rows p _ (inside most_ports rows p h));
     }

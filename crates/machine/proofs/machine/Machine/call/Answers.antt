@@ -30,7 +30,7 @@ returns-then-callers c = λ rule ports.
     c.trip.ensures ports
     ∙ ap (after (world_of m ports) (running m.stack)) (sym (cond-false (ltb (length W) 31) _ _ (le-ltb (length W) 31 (omega (arith, c.callers.ensures)))))
 
-there : (c : goal.In-default) → c.args.n < routines (bytes_of c.args.checked.now.opened)
+there : (c : goal.In_default) → c.args.n < routines (bytes_of c.args.checked.now.opened)
 there c =
     let bs = bytes_of c.args.checked.now.opened in
     let s = c.args.self.now.stack in
@@ -40,7 +40,7 @@ there c =
 pub unreachable-requires : goal.unreachable-requires
 unreachable-requires c =
     let bs = bytes_of c.args.checked.now.opened in
-    let given = c.in-default.ensures ∙ a-signature bs c.args.n (there c) in
+    let given = c.in_default.ensures ∙ a-signature bs c.args.n (there c) in
     let z : ◌≡◌ {A = ℕ} 0 1 = cc in
     omega arith
 

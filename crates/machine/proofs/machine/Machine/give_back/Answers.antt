@@ -16,13 +16,13 @@ use Rattle.machine.proofs.Handing.{split-first}
 use Rattle.machine.proofs.Steps.{goes_on, has_ended}
 use Rattle.machine.proofs.machine.Machine.give_back.Goals as goal
 
-pub returns-then-ends-run : goal.returns-then-ends-run
+pub returns-then-ends_run : goal.returns-then-ends_run
 unfolding effect
-returns-then-ends-run c = λ rule ports.
+returns-then-ends_run c = λ rule ports.
     let m = c.args.self.now in
     let l = running m.stack in
     has_ended m ports c.requires.running _ refl refl
-    ∙ ap (after (world_of m ports) l) (sym (cond-true (eqb l.routine 0) _ _ (sym c.if-ends-run.ensures)))
+    ∙ ap (after (world_of m ports) l) (sym (cond-true (eqb l.routine 0) _ _ (sym c.if-ends_run.ensures)))
 
 pub unreachable-requires : goal.unreachable-requires
 unreachable-requires c =
@@ -30,7 +30,7 @@ unreachable-requires c =
     let s = c.args.self.now.stack in
     let r = ready bs (running s) (waiting s) _ c.requires.able c.requires.stands in
     let there : c.routine-routine.result < routines bs = omega (arith, r.routine, c.routine-routine.ensures) in
-    let given = c.in-default.ensures ∙ a-signature bs c.routine-routine.result there in
+    let given = c.in_default.ensures ∙ a-signature bs c.routine-routine.result there in
     let z : ◌≡◌ {A = ℕ} 0 1 = cc in
     omega arith
 
@@ -39,19 +39,19 @@ caller-caller-requires c =
     let bs = bytes_of c.args.checked.now.opened in
     let m = c.args.self.now in
     let s = m.stack in
-    let w = returning bs (running s) (waiting s) c.args.a c.requires.able c.requires.stands (eqb-false _ 0 (sym c.if-ends-run.ensures)) in
+    let w = returning bs (running s) (waiting s) c.args.a c.requires.able c.requires.stands (eqb-false _ 0 (sym c.if-ends_run.ensures)) in
     record { sized = record { nested = m.nested; whole = m.whole }; some = w.some }
 
-pub unreachable-requires-in-default-instruction : goal.unreachable-requires-in-default-instruction
-unreachable-requires-in-default-instruction c =
+pub unreachable-requires-in_default-instruction : goal.unreachable-requires-in_default-instruction
+unreachable-requires-in_default-instruction c =
     let bs = bytes_of c.args.checked.now.opened in
     let m = c.args.self.now in
     let s = m.stack in
     let l = running s in
     let g = first_of (waiting s) in
-    let w = returning bs l (waiting s) c.args.a c.requires.able c.requires.stands (eqb-false _ 0 (sym c.if-ends-run.ensures)) in
+    let w = returning bs l (waiting s) c.args.a c.requires.able c.requires.stands (eqb-false _ 0 (sym c.if-ends_run.ensures)) in
     let at = (λ i. instr_at bs (c.caller-caller.ensures.routine i) (c.caller-caller.ensures.pc i)) ∙ w.caller.stands in
-    let both = c.in-default-instruction.ensures ∙ at in
+    let both = c.in_default-instruction.ensures ∙ at in
     let z : ◌≡◌ {A = ℕ} 0 1 = cc in
     omega arith
 
@@ -62,11 +62,11 @@ leave-requires c =
     let s = m.stack in
     let l = running s in
     let g = first_of (waiting s) in
-    let w = returning bs l (waiting s) c.args.a c.requires.able c.requires.stands (eqb-false _ 0 (sym c.if-ends-run.ensures)) in
+    let w = returning bs l (waiting s) c.args.a c.requires.able c.requires.stands (eqb-false _ 0 (sym c.if-ends_run.ensures)) in
     let at = (λ i. instr_at bs (c.caller-caller.ensures.routine i) (c.caller-caller.ensures.pc i)) ∙ w.caller.stands in
     let same : Some c.in-Some-instruction.call ≡ Some (Call w.a w.b l.routine) = c.in-Some-instruction.ensures ∙ at in
     let is : c.in-Some-instruction.call ≡ Call w.a w.b l.routine = cc in
-    let first : c.results-into.result ≡ w.a = c.results-into.ensures w.a w.b l.routine is in
+    let first : c.results_into.result ≡ w.a = c.results_into.ensures w.a w.b l.routine is in
     let r = ready bs l (waiting s) _ c.requires.able c.requires.stands in
     let there : c.routine-routine.result < routines bs = omega (arith, r.routine, c.routine-routine.ensures) in
     let told : Some c.in-Some.signature ≡ Some (signature bs c.routine-routine.result) = c.in-Some.ensures ∙ a-signature bs c.routine-routine.result there in
@@ -91,11 +91,11 @@ returns c = λ rule ports.
     let s = m.stack in
     let l = running s in
     let g = first_of (waiting s) in
-    let w = returning bs l (waiting s) c.args.a c.requires.able c.requires.stands (eqb-false _ 0 (sym c.if-ends-run.ensures)) in
+    let w = returning bs l (waiting s) c.args.a c.requires.able c.requires.stands (eqb-false _ 0 (sym c.if-ends_run.ensures)) in
     let at = (λ i. instr_at bs (c.caller-caller.ensures.routine i) (c.caller-caller.ensures.pc i)) ∙ w.caller.stands in
     let same : Some c.in-Some-instruction.call ≡ Some (Call w.a w.b l.routine) = c.in-Some-instruction.ensures ∙ at in
     let is : c.in-Some-instruction.call ≡ Call w.a w.b l.routine = cc in
-    let first : c.results-into.result ≡ w.a = c.results-into.ensures w.a w.b l.routine is in
+    let first : c.results_into.result ≡ w.a = c.results_into.ensures w.a w.b l.routine is in
     let r = ready bs l (waiting s) _ c.requires.able c.requires.stands in
     let there : c.routine-routine.result < routines bs = omega (arith, r.routine, c.routine-routine.ensures) in
     let told : Some c.in-Some.signature ≡ Some (signature bs c.routine-routine.result) = c.in-Some.ensures ∙ a-signature bs c.routine-routine.result there in
@@ -107,4 +107,4 @@ returns c = λ rule ports.
     (c.leave.ensures.running ∙ (λ i. onward g (given g.registers ((first ∙ sym wants) i) (values_from l.registers c.args.a (count i)))))
     c.leave.ensures.waiting refl refl
     ∙ ap (λ ls. after (world_of m ports) l (handed bs vs ls m.memory.bytes ports)) (sym (split-first (waiting s) w.some))
-    ∙ ap (after (world_of m ports) l) (sym (cond-false (eqb l.routine 0) _ _ (sym c.if-ends-run.ensures)))
+    ∙ ap (after (world_of m ports) l) (sym (cond-false (eqb l.routine 0) _ _ (sym c.if-ends_run.ensures)))

@@ -24,7 +24,7 @@ pub unreachable-requires : goal.unreachable-requires
 unreachable-requires g c =
     let bs = bytes_of c.args.checked.now.opened in
     let s = c.args.self.now.stack in
-    let at = (λ i. instr_at bs (sym c.routine-routine.ensures i) (sym c.pc-pc.ensures i)) ∙ sym c.in-default.ensures in
+    let at = (λ i. instr_at bs (sym c.routine-routine.ensures i) (sym c.pc-pc.ensures i)) ∙ sym c.in_default.ensures in
     stuck bs (running s) (waiting s) c.requires.able at
 
 pub push-requires : goal.push-requires
@@ -405,8 +405,8 @@ call-requires g c =
     let e = standing bs s c.routine-routine.result c.pc-pc.result x (sym (ap Some c.in-Call.is) ∙ c.in-Some.ensures) c.routine-routine.ensures c.pc-pc.ensures in
     record { running = c.requires.running; stands = e; able = c.requires.able }
 
-pub give-back-requires : goal.give-back-requires
-give-back-requires g c =
+pub give_back-requires : goal.give_back-requires
+give_back-requires g c =
     let bs = bytes_of c.args.checked.now.opened in
     let m = c.args.self.now in
     let s = m.stack in
@@ -732,7 +732,7 @@ returns-in-Ret g c =
     let x : Instr = Ret c.in-Ret.a in
     let e = standing bs s c.routine-routine.result c.pc-pc.result x (sym (ap Some c.in-Ret.is) ∙ c.in-Some.ensures) c.routine-routine.ensures c.pc-pc.ensures in
     record {
-      step = base bs rule m ports c.requires.running c.requires.able x _ e refl ∙ ap Some (sym (c.give-back.ensures rule ports));
+      step = base bs rule m ports c.requires.running c.requires.able x _ e refl ∙ ap Some (sym (c.give_back.ensures rule ports));
       rule = refl;
       base = refl;
     }

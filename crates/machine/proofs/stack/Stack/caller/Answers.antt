@@ -3,8 +3,8 @@ use Rattle.machine.proofs.Handing.{some-waits, first-waiting}
 use Rattle.machine.proofs.Tops.{level-at}
 use Rattle.machine.proofs.stack.Stack.caller.Goals as goal
 
-pub overflow-sub-caller : goal.overflow-sub-caller
-overflow-sub-caller c = some-waits c.args.self.now c.requires.some
+pub overflow_sub-caller : goal.overflow_sub-caller
+overflow_sub-caller c = some-waits c.args.self.now c.requires.some
 
 pub returns : goal.returns
 returns c =

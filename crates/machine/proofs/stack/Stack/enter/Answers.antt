@@ -14,8 +14,8 @@ loop-k-init c =
     let s = c.args.self.now in
     (begun-none s.frames s.top c.args.routine c.args.b c.begin.new.self (room-above s c.requires.room) c.requires.sized.whole c.begin.ensures, refl)
 
-pub overflow-add-b : goal.overflow-add-b
-overflow-add-b c = omega (arith, few-registers c.args.self.now c.requires.sized c.index-self-top.result)
+pub overflow_add-b : goal.overflow_add-b
+overflow_add-b c = omega (arith, few-registers c.args.self.now c.requires.sized c.index-self-top.result)
 
 pub read-v-requires : goal.read-v-requires
 read-v-requires c =

@@ -5,16 +5,16 @@ use Rattle.machine.proofs.Handing.{some-waits, first-waiting, few-registers, few
 use Rattle.machine.proofs.Tops.{level-at, below_set, below_split, set_same}
 use Rattle.machine.proofs.stack.Stack.leave.Goals as goal
 
-pub overflow-sub-caller : goal.overflow-sub-caller
-overflow-sub-caller c = some-waits c.args.self.now c.requires.some
+pub overflow_sub-caller : goal.overflow_sub-caller
+overflow_sub-caller c = some-waits c.args.self.now c.requires.some
 
 pub loop-k-init : goal.loop-k-init
 loop-k-init c =
     let s = c.args.self.now in
     (taken_none s.frames s.top (s.top - 1) c.args.a c.args.into c.requires.sized.whole, refl)
 
-pub overflow-add-a : goal.overflow-add-a
-overflow-add-a c = omega (arith, few-registers c.args.self.now c.requires.sized c.index-self-top.result)
+pub overflow_add-a : goal.overflow_add-a
+overflow_add-a c = omega (arith, few-registers c.args.self.now c.requires.sized c.index-self-top.result)
 
 pub read-v-requires : goal.read-v-requires
 unfolding running
@@ -24,8 +24,8 @@ read-v-requires c =
     result-there s.frames s.top (s.top - 1) c.args.a c.args.into c.loop-k.k c.loop-k.self.frames c.loop-k.invariant.0
     (omega arith) c.requires.sized.nested (omega (arith, c.requires.there)) c.index-self-top.result
 
-pub overflow-add-into : goal.overflow-add-into
-overflow-add-into c =
+pub overflow_add-into : goal.overflow_add-into
+overflow_add-into c =
     let s = c.args.self.now in
     let some = some-waits s c.requires.some in
     omega (arith, few-at s.frames (s.top - 1) c.index-self-caller.result (omega (arith, c.requires.sized.nested, c.requires.sized.whole)), ap (λ l. length l.registers) (first-waiting s some))

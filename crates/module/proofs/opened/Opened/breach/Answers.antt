@@ -9,18 +9,18 @@ use Rattle.module.proofs.opened.Opened.breach.Goals.{After-count}
 within : (c : After-count) → c.loop-routine.routine < routines c.args.self.now.bytes.now
 within c = omega (arith, c.loop-routine-test.true, ap (λ x. x.routines) c.requires.sound.counted)
 
-pub slice-bounds-breach-in-end : goal.slice-bounds-breach-in-end
-slice-bounds-breach-in-end c =
+pub slice_bounds-breach_in-end : goal.slice_bounds-breach_in-end
+slice_bounds-breach_in-end c =
     let bs = c.args.self.now.bytes.now in
     let entry = c.requires.sound.laid.entry c.loop-routine.routine (within c) in
     let long : length c.args.rows.now ≡ before bs (routines bs) = ap length c.requires.filled ∙ rows-before-long bs (routines bs) in
     omega (arith, entry.inside, long, c.loop-routine.invariant.0, c.count.ensures)
 
-pub breach-in-requires : goal.breach-in-requires
-breach-in-requires c =
+pub breach_in-requires : goal.breach_in-requires
+breach_in-requires c =
     let bs = c.args.self.now.bytes.now in
     let r = c.loop-routine.routine in
-    let lt = within (goal.at.breach-in-requires c).After-count in
+    let lt = within (goal.at.breach_in-requires c).After-count in
     let k : c.loop-routine.start + c.count.result - c.loop-routine.start ≡ count bs r = omega (arith, c.count.ensures) in
     record {
       sound = c.requires.sound;
@@ -29,11 +29,11 @@ breach-in-requires c =
       filled = (λ i. take (k i) (drop (c.loop-routine.invariant.0 i) (c.requires.filled i))) ∙ rows-part bs (routines bs) r lt;
     }
 
-pub overflow-cast-result-in-Some : goal.overflow-cast-result-in-Some
-overflow-cast-result-in-Some c =
+pub overflow_cast-result-in-Some : goal.overflow_cast-result-in-Some
+overflow_cast-result-in-Some c =
     let bs = c.args.self.now.bytes.now in
     let r = c.loop-routine.routine in
-    let lt = within (goal.at.overflow-cast-result-in-Some c).After-count in
+    let lt = within (goal.at.overflow_cast-result-in-Some c).After-count in
     let entry = c.requires.sound.laid.entry r lt in
     omega (arith, first-in (holds c.args.rule bs r) (count bs r) 0 c.in-Some.i (sym c.in-Some.ensures), entry.inside, c.requires.sound.laid.short)
 
@@ -50,5 +50,5 @@ loop-routine-preserved c =
     let r = c.loop-routine.routine in
     let lt = within (goal.at.loop-routine-preserved c).After-count in (
       omega (arith, ap (before bs) (add-one r), c.loop-routine.invariant.0, c.count.ensures),
-      sym (place-step (holds c.args.rule bs) (count bs) (routines bs) r None lt c.in-default.ensures) ∙ c.loop-routine.invariant.1,
+      sym (place-step (holds c.args.rule bs) (count bs) (routines bs) r None lt c.in_default.ensures) ∙ c.loop-routine.invariant.1,
     )

@@ -6,8 +6,8 @@ use Rattle.module.proofs.Firsts.{first_more, first-stop}
 use Rattle.module.proofs.Lookup.{rows_long}
 use Rattle.module.proofs.opened.Opened.breach_in.Goals as goal
 
-pub keeps-requires-in-loop-i : goal.keeps-requires-in-loop-i
-keeps-requires-in-loop-i c =
+pub keeps-requires : goal.keeps-requires
+keeps-requires c =
     let long = rows_long c.args.self.now.bytes.now c.args.routine c.args.rows.now c.requires.filled in
     record { within = c.requires; index = omega (arith, c.loop-i-test.true, long) }
 

@@ -11,12 +11,12 @@ loop-routine-preserved c =
     let r = c.loop-routine.routine in
     let start = c.loop-routine.start in
     let entry = c.requires.sound.laid.entry r (omega (arith, ap (λ x. x.routines) c.requires.sound.counted)) in
-    let filled = c.fill-routine.new.rows in
+    let filled = c.fill_routine.new.rows in
     let long : length filled ≡ c.count.result = omega arith in
     let room : start ≤ length c.loop-routine.rows = omega (arith, entry.inside, c.requires.room, c.loop-routine.invariant.0, c.count.ensures) in (
       omega (arith, ap (before bs) (add-one r), c.loop-routine.invariant.0, c.count.ensures),
       take-put_mid start _ c.loop-routine.rows filled _ (omega (arith, long)) room
-          ∙ (λ i. c.loop-routine.invariant.1 i ++ c.fill-routine.ensures i)
+          ∙ (λ i. c.loop-routine.invariant.1 i ++ c.fill_routine.ensures i)
           ∙ ap (rows_before bs) (sym (add-one r)),
     )
 

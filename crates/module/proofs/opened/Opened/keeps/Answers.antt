@@ -8,8 +8,8 @@ use Rattle.module.proofs.opened.Opened.keeps.Goals as goal
 pub bounds-rows-i : goal.bounds-rows-i
 bounds-rows-i c = omega (arith, rows_long c.args.self.now.bytes.now c.args.routine c.args.rows.now c.requires.within.filled)
 
-pub ending-holds-requires : goal.ending-holds-requires
-ending-holds-requires c = omega (arith, rows_long c.args.self.now.bytes.now c.args.routine c.args.rows.now c.requires.within.filled)
+pub ending_holds-requires : goal.ending_holds-requires
+ending_holds-requires c = omega (arith, rows_long c.args.self.now.bytes.now c.args.routine c.args.rows.now c.requires.within.filled)
 
 pub access-requires : goal.access-requires
 access-requires c =
@@ -25,12 +25,12 @@ access-requires-in-Constants c =
 
 pub returns-in-Stack : goal.returns-in-Stack
 returns-in-Stack c =
-    stack-kept _ _ _ _ c.requires.within _ c.requires.index _ c.in-Some.ensures _ c.stack-holds.ensures
+    stack-kept _ _ _ _ c.requires.within _ c.requires.index _ c.in-Some.ensures _ c.stack_holds.ensures
     ∙ ap (λ q. holds q c.args.self.now.bytes.now c.args.routine c.args.i) (sym c.in-Stack.is)
 
 pub returns-in-Registers : goal.returns-in-Registers
 returns-in-Registers c =
-    registers-kept _ _ _ _ c.requires.within _ c.requires.index _ c.in-Some.ensures _ _ c.access.ensures c.registers-hold.ensures
+    registers-kept _ _ _ _ c.requires.within _ c.requires.index _ c.in-Some.ensures _ _ c.access.ensures c.registers_hold.ensures
     ∙ ap (λ q. holds q c.args.self.now.bytes.now c.args.routine c.args.i) (sym c.in-Registers.is)
 
 pub returns-in-Constants : goal.returns-in-Constants
@@ -39,7 +39,7 @@ returns-in-Constants c =
     let late : number Stack < number c.args.rule = omega (arith, ap number c.in-Constants.is) in
     let deep = shallow _ _ _ _ w _ c.requires.index _ c.in-Some.ensures late c.args.i c.requires.index in
     let row = here-is _ _ _ _ w _ c.requires.index _ c.in-Some.ensures in
-    constants-kept _ _ _ _ w _ c.requires.index _ c.in-Some.ensures _ _ c.access-in-Constants.ensures (c.constants-hold.ensures _ row deep)
+    constants-kept _ _ _ _ w _ c.requires.index _ c.in-Some.ensures _ _ c.access-in-Constants.ensures (c.constants_hold.ensures _ row deep)
     ∙ ap (λ q. holds q c.args.self.now.bytes.now c.args.routine c.args.i) (sym c.in-Constants.is)
 
 pub returns-in-Target : goal.returns-in-Target
@@ -49,10 +49,10 @@ returns-in-Target c =
     let deep = shallow _ _ _ _ w _ c.requires.index _ c.in-Some.ensures late in
     let row = here-is _ _ _ _ w _ c.requires.index _ c.in-Some.ensures in
     target-kept _ _ _ _ w _ c.requires.index _ c.in-Some.ensures _
-    (c.target-holds.ensures c.args.self.now.bytes.now c.args.routine _ w.filled row (deep c.args.i c.requires.index) deep)
+    (c.target_holds.ensures c.args.self.now.bytes.now c.args.routine _ w.filled row (deep c.args.i c.requires.index) deep)
     ∙ ap (λ q. holds q c.args.self.now.bytes.now c.args.routine c.args.i) (sym c.in-Target.is)
 
 pub returns-in-Ending : goal.returns-in-Ending
 returns-in-Ending c =
-    ending-kept _ _ _ _ c.requires.within _ c.requires.index _ c.in-Some.ensures _ c.ending-holds.ensures
+    ending-kept _ _ _ _ c.requires.within _ c.requires.index _ c.in-Some.ensures _ c.ending_holds.ensures
     ∙ ap (λ q. holds q c.args.self.now.bytes.now c.args.routine c.args.i) (sym c.in-Ending.is)

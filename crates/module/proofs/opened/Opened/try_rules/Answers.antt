@@ -14,4 +14,4 @@ loop-rule-preserved c =
     let bs = c.args.self.now.bytes.now in
     let i = c.loop-rule.rule-index in
     let lt = c.loop-rule-test.true in
-    (sym (rule-step bs i lt None c.in-default.ensures) ∙ c.loop-rule.invariant.0, hold-more bs i lt c.loop-rule.invariant.1 c.in-default.ensures)
+    (sym (rule-step bs i lt None c.in_default.ensures) ∙ c.loop-rule.invariant.0, hold-more bs i lt c.loop-rule.invariant.1 c.in_default.ensures)

@@ -8,7 +8,7 @@ use Rattle.module.proofs.opened.Opened.write_rows.Goals as goal
 
 pub loop-k-preserved : goal.loop-k-preserved
 loop-k-preserved c =
-    writes_more (body_row (bytes_of c.args.self.now)) c.loop-k.rows c.loop-k.k no_row _ (omega arith) c.loop-k.invariant c.body-row.ensures
+    writes_more (body_row (bytes_of c.args.self.now)) c.loop-k.rows c.loop-k.k no_row _ (omega arith) c.loop-k.invariant c.body_row.ensures
 
 pub returns : goal.returns
 returns c =
