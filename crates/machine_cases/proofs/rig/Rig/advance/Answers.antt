@@ -11,8 +11,8 @@ step-requires g c =
     let run = sym c.in-Running.ensures.state in
     record { running = run; able = has-step bs (never_stuck bs rig.checked.keeps) rig.machine [] rig.sound run }
 
-pub invariant-of-self : goal.invariant-of-self
-invariant-of-self g c =
+pub invariant_of-self : goal.invariant_of-self
+invariant_of-self g c =
     let rig = c.args.self.now in
     let bs = bytes_of rig.checked.opened in
     let never = never_stuck bs rig.checked.keeps in
@@ -20,4 +20,4 @@ invariant-of-self g c =
     let before = any-ports bs rig.machine [] ports rig.sound in
     let run = sym c.in-Running.ensures.state in
     let after = stays-sound bs never rig.machine ports before _ c.step.new.self _ run c.step.ensures.step in
-    (any-ports bs c.step.new.self _ [] after, tt)
+    record { sound = any-ports bs c.step.new.self _ [] after }
