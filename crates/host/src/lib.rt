@@ -31,12 +31,9 @@ pub trait Host {
     // What each host proves: it has at most 256 ports, and its rule changes only values of sense ports.
     ghost lawful: { Lawful ports rule };
 
-    /// The value of port p, or refusal 4.
+    /// The value of port p, or refusal 4. A read changes nothing: the host is not lent for writing.
     fn read(&self, p: usize) -> Result<u32, HostRefusal>
-        ensures answer { told result ≡ reading (ports self.now) p }
-        ensures ports { ports self.now ≡ ports self.now }
-        ensures rule { rule self.now ≡ rule self.now }
-        ensures base { base self.now ≡ base self.now };
+        ensures answer { told result ≡ reading (ports self.now) p };
 
     /// Gives port p the value v, or refuses with 4, 5 or 6.
     fn write(&mut self, p: usize, v: u32) -> Result<(), HostRefusal>

@@ -1,8 +1,8 @@
 -- Bytes that pass the opening tests are laid out as the rules say.
-use Rattle.std.proofs.Common.{◌≡◌, ℕ, suc, ◌+◌, ◌-◌, ◌*◌, ◌<◌, ◌≤◌, Bool, true, false, eqb, leb, List, length, is_ok, Some, None, Ok, Option, Result, sym, refl, ap, ◌∙◌, arith}
-use Rattle.std.proofs.lemmas.Bool.{eqb-true, false≢true}
+use Rattle.std.proofs.Common.{◌≡◌, ◌⊎◌, inl, inr, ℕ, suc, ◌+◌, ◌-◌, ◌*◌, ◌<◌, ◌≤◌, Bool, true, false, eqb, leb, List, length, is_ok, Some, None, Ok, Err, Option, Result, sym, refl, ap, ◌∙◌, arith}
+use Rattle.std.proofs.lemmas.Bool.{and_left, and_right, cond-true, cond-false, le-leb, lt-leb, eqb-true, false≢true}
 use Rattle.std.proofs.lemmas.Bool.Decides.{nat_tests}
-use Rattle.refusal.specs.Values.{Values}
+use Rattle.refusal.specs.Values.{Values, author}
 use Rattle.module.specs.declared.opened.Opened.{Opened}
 use Rattle.module.specs.First.{first_failing}
 use Rattle.module.specs.Laid.{Laid}
@@ -84,3 +84,16 @@ sound o bs shows verdict same = record {
   laid = laid (bytes_of o) (ap (λ x. is_ok (opening x)) shows ∙ ap is_ok (sym verdict));
   counted = same ∙ ap counts (sym shows);
 }
+
+-- n routines and an image of d bytes are out of range: there is no routine, there are more than 64, or the image is too long
+counts-out : (bs : List ℕ) (n d : ℕ) → n ≡ routines bs → d ≡ image_length bs →
+    (n < 1) ⊎ ((1 ≤ n) × (64 < n)) ⊎ ((1 ≤ n) × (n ≤ 64) × (4096 < d)) → counts_right bs ≡ false
+counts-out bs n d en ed (inl h) = and_left _ _ (lt-leb 1 (routines bs) (omega arith))
+counts-out bs n d en ed (inr (inl h)) = and_right _ _ (and_left _ _ (lt-leb (routines bs) 64 (omega arith)))
+counts-out bs n d en ed (inr (inr h)) = and_right _ _ (and_right _ _ (lt-leb (image_length bs) 4096 (omega arith)))
+
+-- what open answers then
+pub counts-refused : (bs : List ℕ) (n d : ℕ) → n ≡ routines bs → d ≡ image_length bs → 4 ≤ length bs →
+    (n < 1) ⊎ ((1 ≤ n) × (64 < n)) ⊎ ((1 ≤ n) × (n ≤ 64) × (4096 < d)) → Err (author 2 0 0) ≡ opening bs
+counts-refused bs n d en ed long out =
+    sym (cond-true (leb 4 (length bs)) _ _ (le-leb 4 (length bs) long) ∙ cond-false (counts_right bs) _ _ (counts-out bs n d en ed out))

@@ -1,4 +1,4 @@
-use Rattle.std.proofs.Common.{◌<◌, ◌≤◌, length, take, sym, refl, arith, length-take}
+use Rattle.std.proofs.Common.{◌<◌, ◌≤◌, length, take, sym, arith, length-take}
 use Rattle.host.specs.Ports.{most_ports}
 use Rattle.host.proofs.Fronts.{read_past, front_read, in_rows}
 use Rattle.host.proofs.table.TableHostHost.read.Goals as goal
@@ -12,9 +12,9 @@ bounds-self-p c = in_rows most_ports c.args.self.now.rows.now c.args.p (omega ar
 pub returns-then-p-count : goal.returns-then-p-count
 returns-then-p-count c =
     let h : length (take most_ports c.args.self.now.rows.now) ≤ c.args.p = omega arith in
-    record { answer = sym (read_past _ _ h); ports = refl; rule = refl; base = refl }
+    record { answer = sym (read_past _ _ h) }
 
 pub returns : goal.returns
 returns c =
     let h : c.args.p < length (take most_ports c.args.self.now.rows.now) = omega arith in
-    record { answer = sym (front_read most_ports _ _ h); ports = refl; rule = refl; base = refl }
+    record { answer = sym (front_read most_ports _ _ h) }
