@@ -1,5 +1,5 @@
 -- Arguments and results, copied one register at a time.
-use Rattle.std.proofs.Common.{◌≡◌, ℕ, ◌+◌, ◌-◌, ◌<◌, ◌≤◌, List, [], ◌∷◌, ◌++◌, map, length, get_or, take, drop, set, refl, ap, ◌∙◌, arith, length-set}
+use Rattle.std.proofs.Common.{◌≡◌, ℕ, ◌+◌, ◌<◌, ◌≤◌, List, [], ◌∷◌, ◌++◌, map, length, get_or, take, drop, set, refl, ap, ◌∙◌, arith, length-set}
 use Rattle.std.proofs.lemmas.List.{take_more, map_push, get_or-drop, length-map, length-drop, length-take-le}
 use Rattle.machine.specs.declared.frame.Register.{Register}
 use Rattle.machine.specs.Level.{variable, copied, values_from, given}

@@ -16,7 +16,7 @@ use Rattle.module.specs.declared.rule.Rule.TheVariants.{Stack, Callee, Registers
 use Rattle.module.specs.Accepted.{accepted}
 use Rattle.module.specs.First.{passes}
 use Rattle.module.specs.Kept.{In, Writes, Kept}
-use Rattle.module.specs.Layout.{routines, count, arguments, results, instr}
+use Rattle.module.specs.Layout.{count, arguments, results, instr}
 use Rattle.module.specs.Places.{inside}
 use Rattle.module.specs.Rules.{stacks, calls, registers, constants, same_flag, same_shape}
 use Rattle.module.specs.Shape.{passed, shape}

@@ -1,5 +1,5 @@
 -- What there is at a place, from how the place compares with the counts.
-use Rattle.std.proofs.Common.{◌≡◌, ℕ, ◌<◌, ◌≤◌, true, false, ◌&&◌, ltb, List, Some, None, sym, ◌∙◌}
+use Rattle.std.proofs.Common.{◌≡◌, ℕ, ◌<◌, ◌≤◌, ◌&&◌, ltb, List, Some, None}
 use Rattle.std.proofs.lemmas.Bool.{and_from, and_left, and_right, cond-true, cond-false, lt-ltb, le-ltb}
 use Rattle.module.specs.Layout.{routines, count, signature, instr}
 use Rattle.module.specs.Places.{inside, instr_at, signature_at}

@@ -1,5 +1,5 @@
 -- The mask of a shape.
-use Rattle.std.proofs.Common.{◌≡◌, ℕ, zero, suc, ◌+◌, ◌-◌, ◌*◌, ◌/◌, ◌%◌, ◌^◌, ◌<◌, Bool, true, false, cond, eqb, List, [], ◌∷◌, ◌++◌, length, take, drop, replicate, sym, refl, ap, ◌∙◌, div-one, mul_left_comm, arith}
+use Rattle.std.proofs.Common.{◌≡◌, ℕ, zero, suc, ◌+◌, ◌*◌, ◌/◌, ◌%◌, ◌^◌, ◌<◌, Bool, true, false, cond, eqb, List, [], ◌∷◌, ◌++◌, length, take, drop, replicate, sym, refl, ap, ◌∙◌, div-one, mul_left_comm, arith}
 use native.Mathlib.Nat.{pow-succ', mod-one, zero-mod, zero-div}
 use lib.Arith.{digits_div, digits_mod}
 use Rattle.std.proofs.lemmas.Nat.{pow_pos, div-add-mod', mod_below}

@@ -1,5 +1,5 @@
 -- What check answers, and what it leaves in the sheet.
-use Rattle.std.specs.Prelude.{ℕ, ◌+◌, cond, ◌&&◌, List, [], ◌∷◌, ◌++◌, length, drop, replicate, is_ok, Some, None, Ok, Err, Option, Result, nat_le}
+use Rattle.std.specs.Prelude.{ℕ, cond, ◌&&◌, List, [], ◌∷◌, ◌++◌, length, drop, replicate, is_ok, Some, None, Ok, Err, Option, Result, nat_le}
 use Rattle.refusal.specs.Values.{Values, author, caller}
 use Rattle.refusal.specs.declared.Place.{Place}
 use Rattle.module.specs.declared.opened.Counts.{Counts}

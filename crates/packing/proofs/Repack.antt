@@ -1,12 +1,12 @@
 -- A module's bytes, taken apart and put together.
-use Rattle.std.proofs.Common.{◌≡◌, ℕ, zero, suc, ◌+◌, ◌-◌, ◌*◌, ◌<◌, ◌≤◌, List, [], ◌∷◌, ◌++◌, length, get_or, take, drop, sym, refl, ap, ◌∙◌, arith, length-drop, take-append-drop, take-add}
+use Rattle.std.proofs.Common.{◌≡◌, ℕ, zero, suc, ◌+◌, ◌*◌, ◌<◌, ◌≤◌, List, [], ◌∷◌, ◌++◌, length, get_or, take, drop, sym, refl, ap, ◌∙◌, arith, length-drop, take-append-drop, take-add}
 use Rattle.std.proofs.lemmas.List.FromFn.{length-map-range_with_len, get_or-map-range_with_len}
 use Rattle.std.proofs.lemmas.List.{drop_more, drop-drop}
 use Rattle.module.specs.Bytes.{Octets, two, four}
 use Rattle.module.specs.Laid.{Laid}
 use Rattle.module.specs.Layout as layout
 use Rattle.module.specs.Unpack.{entry_of, body_row, entries, rows, image}
-use Rattle.packing.specs.Packed.{low2, low4, no_entry, no_row, entry_at, row_at, before, total, entry_bytes, row_bytes, blocks, packed}
+use Rattle.packing.specs.Packed.{low2, low4, no_entry, no_row, entry_at, row_at, before, entry_bytes, row_bytes, blocks, packed}
 use Rattle.packing.proofs.Digits.{low2-is, low4-is}
 
 -- blocks that are the parts of a list

@@ -12,7 +12,7 @@ use Rattle.module.specs.Bytes.{byte, four}
 use Rattle.module.specs.First.{first_failing}
 use Rattle.module.specs.Layout as layout
 use Rattle.module.specs.Unpack.{entry_of, body_row, entries, rows, image}
-use Rattle.packing.specs.Pack.{counts_right, entry_right, size}
+use Rattle.packing.specs.Pack.{entry_right, size}
 use Rattle.packing.specs.Packed.{low2, no_entry, no_row, entry_at, row_at, before, total, entry_bytes, row_bytes, blocks, packed}
 use Rattle.packing.proofs.Digits.{two_back, four-back}
 use Rattle.packing.proofs.Sums.{inside}
