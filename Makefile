@@ -4,8 +4,7 @@
 .PHONY: run gate
 
 run:
-	rt check bench
-	target/bin/bench < samples/ramp.bin
+	cd crates/bench && rt run < ../../samples/ramp.bin
 
 gate:
 	.ci/run

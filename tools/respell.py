@@ -5,6 +5,10 @@ Run once, at the top, after the toolchain's own porting script. It takes the wor
 capitals, as `wellFormed`, and writes `well_formed`, in the definitions and proofs (*.antt), in what only contracts see of the
 sources (*.rt: Rust has no such words), and where documents name them. Types, facts and modules, which begin with a capital,
 keep their names, and so do strings. It stops where two words of one file would fall together.
+
+Then it turns the dashes of the lemmas' names. A dash stays where it joins the two calls on the left side of a lemma's equation,
+as in `length-swept`, and an underscore stands before a plain word, as in `four_back`. A lemma that would have the name of a
+definition gets `_lem`. Names that the toolchain makes, as those of goals, are not touched.
 """
 import pathlib
 import re
@@ -17,8 +21,23 @@ KEPT = {"quotZ"}
 # words that the porting script has respelled in the sources, and that documents still have in the old spelling
 IN_DOCUMENTS = {"valueAt", "valuesOf", "rowAt", "bytesOf"}
 
-# lemmas whose names fall together with a word that is respelled here: the file, the lemma, and its name from now on
-LEMMAS = [("crates/machine/proofs/Soundness.antt", "same_flag", "same_flag-itself")]
+# a lemma whose name falls together with a word that is respelled here: the file, the lemma, its name from now on, and the word
+LEMMAS = [("crates/machine/proofs/Soundness.antt", "same_flag", "same_flag-itself", "sameFlag")]
+# lemmas whose dash joins two calls on the left side of their equation
+JOINED = {
+    "cycled-append", "first-cycled", "first-drop", "first-newest", "first-push", "length-full", "length-shifted", "length-swept",
+    "swept-nil", "length-shape", "length-below", "shape-set", "shape-given", "shape-copied", "mask-none", "mask-push", "mask-take",
+    "mask-drop", "mask-zero", "provided-ok", "entry-byte", "row-byte", "upwards-suc",
+}
+# lemmas that would have the name of a definition
+LEM = {
+    "counts-right", "entry-right", "first-place", "level-at", "marked-first", "or-refused", "or-trip", "same-shape", "sheet-then",
+}
+# the same of a lemma that the porting script has named so: its name, and the files that cite it
+LEM_IN = [
+    ("row_at", ["proofs/Lookup.antt", "proofs/Keeps.antt", "proofs/rules/target_holds/Answers.antt"], "crates/module/"),
+]
+DECLARED = re.compile(r"^\s*(?:pub )?([a-z][^\s:(){}.]*-[^\s:(){}.]*)\s*(?:(?:\{[^}]*\}|\([^)]*\))\s*)*:\s(?!goal\.)")
 # functions of the sources that have the name of the word which their own contract cites: a clause sees only the word
 FUNCTIONS = {"breach_in", "entry_right", "row_from", "callee_signature", "body_row"}
 
@@ -38,9 +57,9 @@ def outside_strings(text, turn):
 def main():
     sources = sorted(pathlib.Path("crates").glob("**/*.antt")) + sorted(pathlib.Path("crates").glob("**/*.rt"))
     sources = [p for p in sources if "out" not in p.parts]
-    for name, lemma, new in LEMMAS:
+    for name, lemma, new, word in LEMMAS:
         path = pathlib.Path(name)
-        if path.exists():
+        if path.exists() and word in path.read_text():
             path.write_text(re.sub(r"(?<![\w'-])%s(?![\w'-])" % lemma, new, path.read_text()))
     found, clash = set(), False
     for path in sources:
@@ -68,6 +87,36 @@ def main():
         if new != text:
             path.write_text(new)
     print(f"respell: {len(found)} words")
+    turn_lemmas(sources)
+
+
+def undashed(lemma):
+    return lemma.replace("-", "_") + ("_lem" if lemma in LEM else "")
+
+
+def turn_lemmas(sources):
+    lemmas = set()
+    for path in sources:
+        if path.suffix == ".antt":
+            for line in path.read_text().splitlines():
+                m = DECLARED.match(line)
+                if m and not line.startswith("use ") and m.group(1) not in JOINED:
+                    lemmas.add(m.group(1))
+    if not lemmas:
+        return
+    any_lemma = re.compile(r"(?<![\w'.-])(?:%s)(?![\w'-])" % "|".join(sorted(map(re.escape, lemmas), key=len, reverse=True)))
+    pages = [pathlib.Path("README.md"), *(p for p in sorted(pathlib.Path("docs").glob("*.md")) if not p.name.startswith("PORT"))]
+    for path in [*sources, *pages]:
+        text = path.read_text()
+        new = any_lemma.sub(lambda m: undashed(m.group(0)), text)
+        if new != text:
+            path.write_text(new)
+    for name, files, folder in LEM_IN:
+        for file in files:
+            path = pathlib.Path(folder + file)
+            if path.exists():
+                path.write_text(re.sub(r"(?<![\w'.-])%s(?![\w'-])" % name, name + "_lem", path.read_text()))
+    print(f"respell: {len(lemmas)} lemmas")
 
 
 main()
