@@ -4,7 +4,7 @@ use Rattle.std.proofs.Common.{lit≤}
 use Rattle.host.specs.declared.port.Flag.TheVariants.{Order, Sense}
 use Rattle.host.specs.declared.port.Port.{Port}
 use Rattle.host.specs.Ports.{value_at}
-use Rattle.host.specs.Lawful.{Lawful, sensing, sensing-senses}
+use Rattle.host.specs.Lawful.{Lawful, sensing, sensing_senses}
 use Rattle.counter.specs.declared.CounterHost.{CounterHost}
 
 -- the ports of a counter with this pace and this count
@@ -25,5 +25,5 @@ counted ports = ports_with (value_at ports 0) ((value_at ports 1 + value_at port
 abbrev pub counter_rule : List Port → List Port
 counter_rule ports = sensing ports (counted ports)
 
-pub counter-lawful : Lawful counter_ports (λ _. counter_rule)
-counter-lawful = record { few = λ _. lit≤ tt; senses = λ _ ports. sensing-senses ports (counted ports) }
+pub counter_lawful : Lawful counter_ports (λ _. counter_rule)
+counter_lawful = record { few = λ _. lit≤ tt; senses = λ _ ports. sensing_senses ports (counted ports) }

@@ -3,7 +3,7 @@
 #![tactic(auto)]
 
 ghost use Rattle.std.specs.Prelude.{◌≡◌};
-ghost use Rattle.counter.specs.Counter.{counter_ports, ports_with, counter_rule, counter-lawful};
+ghost use Rattle.counter.specs.Counter.{counter_ports, ports_with, counter_rule, counter_lawful};
 
 use host::Host;
 use host::port::HostRefusal;
@@ -42,7 +42,7 @@ impl Host for CounterHost {
 
     ghost base = { λ _. tt };
 
-    ghost lawful = { counter-lawful };
+    ghost lawful = { counter_lawful };
 
     fn read(&self, p: usize) -> Result<u32, HostRefusal> {
         match p {

@@ -9,8 +9,8 @@ use Rattle.faults.specs.Lists.{cycled}
 pub cycled-append : (xs ys : List FaultValues) → cycled (xs ++ ys) ≡ cycled xs ++ cycled ys
 cycled-append xs ys = ap (map marked) (filter-append (λ fault. not (is_marked fault)) xs ys) ∙ map-append marked (filter _ xs) (filter _ ys)
 
-cycled-one : (fault : FaultValues) → cycled (fault ∷ []) ≡ cond (is_marked fault) [] (marked fault ∷ [])
-cycled-one fault =
+cycled_one : (fault : FaultValues) → cycled (fault ∷ []) ≡ cond (is_marked fault) [] (marked fault ∷ [])
+cycled_one fault =
     elim (is_marked fault) as (λ b. map marked (cond (not b) (fault ∷ []) []) ≡ cond b [] (marked fault ∷ [])) [ true ↦ refl | false ↦ refl ]
 
 -- of the rows `old`, the first i are done, and those that are left are the first of `now`
@@ -35,7 +35,7 @@ module _ (old now : List FaultValues) (i left : ℕ) (inv : Kept old now i left)
       ∙ cycled-append (take i old) (get_or old i no_fault ∷ [])
       ∙ ap (λ xs. xs ++ cycled (get_or old i no_fault ∷ [])) (sym inv.done)
       ∙ ap (λ fault. take left now ++ cycled (fault ∷ [])) same
-      ∙ ap (λ xs. take left now ++ xs) (cycled-one here)
+      ∙ ap (λ xs. take left now ++ xs) (cycled_one here)
 
   rest_more : drop (i + 1) now ≡ drop (i + 1) old
   rest_more = sym (drop-drop 1 i now) ∙ ap (drop 1) inv.rest ∙ drop-drop 1 i old

@@ -19,14 +19,14 @@ module _ {X : Type 0} where
   more d (suc i) (x ∷ y ∷ xs) h = ap (λ zs. y ∷ zs) (more d i (y ∷ xs) (omega arith))
 
   -- one turn of the loop
-  pub shifted-more : (d : X) (i : ℕ) (xs : List X) → i + 1 < length xs → set (shifted i xs) i (get_or (shifted i xs) (i + 1) d) ≡ shifted (i + 1) xs
-  shifted-more d i xs h =
+  pub shifted_more : (d : X) (i : ℕ) (xs : List X) → i + 1 < length xs → set (shifted i xs) i (get_or (shifted i xs) (i + 1) d) ≡ shifted (i + 1) xs
+  shifted_more d i xs h =
       ap (λ k. set (shifted i xs) i (get_or (shifted i xs) k d)) (add-one i) ∙ more d i xs (omega arith) ∙ ap (λ k. shifted k xs) (sym (add-one i))
 
   -- after the last turn, with y in the last place
-  pub shifted-all : (i : ℕ) (xs : List X) (y : X) → length xs ≡ suc i → set (shifted i xs) i y ≡ drop 1 xs ++ (y ∷ [])
-  shifted-all i [] y h = absurd (omega arith)
-  shifted-all zero (x ∷ []) y h = refl
-  shifted-all zero (x ∷ z ∷ xs) y h = absurd (omega arith)
-  shifted-all (suc i) (x ∷ []) y h = absurd (omega arith)
-  shifted-all (suc i) (x ∷ z ∷ xs) y h = ap (λ zs. z ∷ zs) (shifted-all i (z ∷ xs) y (omega arith))
+  pub shifted_all : (i : ℕ) (xs : List X) (y : X) → length xs ≡ suc i → set (shifted i xs) i y ≡ drop 1 xs ++ (y ∷ [])
+  shifted_all i [] y h = absurd (omega arith)
+  shifted_all zero (x ∷ []) y h = refl
+  shifted_all zero (x ∷ z ∷ xs) y h = absurd (omega arith)
+  shifted_all (suc i) (x ∷ []) y h = absurd (omega arith)
+  shifted_all (suc i) (x ∷ z ∷ xs) y h = ap (λ zs. z ∷ zs) (shifted_all i (z ∷ xs) y (omega arith))

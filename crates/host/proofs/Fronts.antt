@@ -12,11 +12,11 @@ module _ (ports : List Port) (p : ℕ) (h : length ports ≤ p) where
   pub read_past : reading ports p ≡ Err (by_host 4)
   read_past = cond-false (ltb p (length ports)) _ _ (le-ltb p (length ports) h)
 
-  pub write-past : (v : ℕ) → writing ports p v ≡ Err (by_host 4)
-  write-past v = cond-false (ltb p (length ports)) _ _ (le-ltb p (length ports) h)
+  pub write_past : (v : ℕ) → writing ports p v ≡ Err (by_host 4)
+  write_past v = cond-false (ltb p (length ports)) _ _ (le-ltb p (length ports) h)
 
-  pub written-past : (v : ℕ) → written ports p v ≡ ports
-  written-past v = set_past ports p _ h
+  pub written_past : (v : ℕ) → written ports p v ≡ ports
+  written_past v = set_past ports p _ h
 
 module _ (n : ℕ) (rows : List Port) (p : ℕ) (h : p < length (take n rows)) where
   pub inside : p < n
@@ -32,8 +32,8 @@ module _ (n : ℕ) (rows : List Port) (p : ℕ) (h : p < length (take n rows)) w
   front_read = cond-true (ltb p (length (take n rows))) _ _ (lt-ltb p (length (take n rows)) h) ∙ ap (λ port. Ok port.value) same
 
   module _ (v : ℕ) where
-    pub front-write : writing (take n rows) p v ≡ ordering (get_or rows p blank) v
-    front-write = cond-true (ltb p (length (take n rows))) _ _ (lt-ltb p (length (take n rows)) h) ∙ ap (λ port. ordering port v) same
+    pub front_write : writing (take n rows) p v ≡ ordering (get_or rows p blank) v
+    front_write = cond-true (ltb p (length (take n rows))) _ _ (lt-ltb p (length (take n rows)) h) ∙ ap (λ port. ordering port v) same
 
-    pub front-written : take n (set rows p (ordered (get_or rows p blank) v)) ≡ written (take n rows) p v
-    front-written = take-set-lt n rows p _ inside ∙ ap (λ port. set (take n rows) p (ordered port v)) (sym same)
+    pub front_written : take n (set rows p (ordered (get_or rows p blank) v)) ≡ written (take n rows) p v
+    front_written = take-set-lt n rows p _ inside ∙ ap (λ port. set (take n rows) p (ordered port v)) (sym same)

@@ -6,7 +6,7 @@ use Rattle.host.specs.declared.port.Port.{Port}
 use Rattle.host.specs.declared.axis.AxisHost.{AxisHost}
 use Rattle.host.specs.Ports.{value_at, written}
 use Rattle.host.specs.Response.{ticked}
-use Rattle.host.specs.Lawful.{Lawful, sensing, sensing-senses}
+use Rattle.host.specs.Lawful.{Lawful, sensing, sensing_senses}
 
 -- the ports of an axis with these values: ordered speed, ramp, speed and position
 abbrev pub ports_with : ℕ → ℕ → ℕ → ℕ → List Port
@@ -41,5 +41,5 @@ pub record OrderedTo120 (ports : List Port) : Type 0 where
   pub two : ticked 2 axis_rule (written ports 0 120) ≡ ports_with 120 50 100 150
   pub three : ticked 3 axis_rule (written ports 0 120) ≡ ports_with 120 50 120 270
 
-pub axis-lawful : Lawful axis_ports (λ _. axis_rule)
-axis-lawful = record { few = λ _. lit≤ tt; senses = λ _ ports. sensing-senses ports (motion ports) }
+pub axis_lawful : Lawful axis_ports (λ _. axis_rule)
+axis_lawful = record { few = λ _. lit≤ tt; senses = λ _ ports. sensing_senses ports (motion ports) }

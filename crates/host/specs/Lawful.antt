@@ -22,17 +22,17 @@ sensing [] qs = []
 sensing (p ∷ ps) [] = p ∷ ps
 sensing (p ∷ ps) (q ∷ qs) = with_value p (by_flag p.flag p.value q.value) ∷ sensing ps qs
 
-pub same-sensed : (p : Port) → Sensed p p
-same-sensed p = record { others = refl; orders = λ _. refl }
+pub same_sensed : (p : Port) → Sensed p p
+same_sensed p = record { others = refl; orders = λ _. refl }
 
-pub same-senses : (ps : List Port) → AllZip Sensed ps ps
-same-senses [] = tt
-same-senses (p ∷ ps) = (same-sensed p, same-senses ps)
+pub same_senses : (ps : List Port) → AllZip Sensed ps ps
+same_senses [] = tt
+same_senses (p ∷ ps) = (same_sensed p, same_senses ps)
 
-sensing-one : (p q : Port) → Sensed p (with_value p (by_flag p.flag p.value q.value))
-sensing-one p q = record { others = refl; orders = λ order. ap (λ f. by_flag f p.value q.value) order }
+sensing_one : (p q : Port) → Sensed p (with_value p (by_flag p.flag p.value q.value))
+sensing_one p q = record { others = refl; orders = λ order. ap (λ f. by_flag f p.value q.value) order }
 
-pub sensing-senses : (ps qs : List Port) → AllZip Sensed ps (sensing ps qs)
-sensing-senses [] qs = tt
-sensing-senses (p ∷ ps) [] = same-senses (p ∷ ps)
-sensing-senses (p ∷ ps) (q ∷ qs) = (sensing-one p q, sensing-senses ps qs)
+pub sensing_senses : (ps qs : List Port) → AllZip Sensed ps (sensing ps qs)
+sensing_senses [] qs = tt
+sensing_senses (p ∷ ps) [] = same_senses (p ∷ ps)
+sensing_senses (p ∷ ps) (q ∷ qs) = (sensing_one p q, sensing_senses ps qs)

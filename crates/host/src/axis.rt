@@ -1,5 +1,5 @@
 ghost use Rattle.std.specs.Prelude.{◌≡◌};
-ghost use Rattle.host.specs.Axis.{axis_ports, ports_with, towards, axis_rule, axis-lawful, OrderedTo120};
+ghost use Rattle.host.specs.Axis.{axis_ports, ports_with, towards, axis_rule, axis_lawful, OrderedTo120};
 
 use crate::Host;
 use crate::port::HostRefusal;
@@ -60,7 +60,7 @@ impl Host for AxisHost {
 
     ghost base = { λ _. tt };
 
-    ghost lawful = { axis-lawful };
+    ghost lawful = { axis_lawful };
 
     fn read(&self, p: usize) -> Result<u32, HostRefusal> {
         match p {

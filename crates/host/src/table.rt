@@ -2,7 +2,7 @@ ghost use Rattle.std.specs.Prelude.{◌≡◌, List, length, take, drop};
 ghost use Rattle.std.specs.Borrow.{GName};
 ghost use Rattle.host.specs.declared.port.Port.{Port as Row};
 ghost use Rattle.host.specs.Ports.{most_ports};
-ghost use Rattle.host.specs.Table.{table_ports, table_rule, table_base, table-lawful};
+ghost use Rattle.host.specs.Table.{table_ports, table_rule, table_base, table_lawful};
 
 use crate::Host;
 use crate::port::{HostRefusal, MOST_PORTS, Port};
@@ -39,7 +39,7 @@ impl<'a> Host for TableHost<'a> {
 
     ghost base = { table_base };
 
-    ghost lawful = { table-lawful };
+    ghost lawful = { table_lawful };
 
     fn read(&self, p: usize) -> Result<u32, HostRefusal> {
         if p >= self.count() {

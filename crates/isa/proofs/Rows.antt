@@ -12,13 +12,13 @@ use Rattle.isa.specs.declared.instr.Instr.{Instr}
 use Rattle.isa.specs.declared.instr.Instr.TheVariants.{New, Def, Kill, Mov, Swap, Calc, Divide, Load, Store, Bal, Branch, Call, Ret, Get, Put, Tick}
 use Rattle.isa.specs.Form.{within, well_formed, opcode, operation, instruction, decoded, row, encoded}
 
-pub row-decoded : (i : Instr) → decoded (encoded i) ≡ Some i
-row-decoded New = refl
-row-decoded (Def n) = refl
-row-decoded Kill = refl
-row-decoded (Mov a b) = refl
-row-decoded (Swap a b) = refl
-row-decoded (Calc o a b c) = elim o as (λ x. decoded (encoded (Calc x a b c)) ≡ Some (Calc x a b c)) [
+pub row_decoded : (i : Instr) → decoded (encoded i) ≡ Some i
+row_decoded New = refl
+row_decoded (Def n) = refl
+row_decoded Kill = refl
+row_decoded (Mov a b) = refl
+row_decoded (Swap a b) = refl
+row_decoded (Calc o a b c) = elim o as (λ x. decoded (encoded (Calc x a b c)) ≡ Some (Calc x a b c)) [
   | Add ↦ refl
   | Sub ↦ refl
   | Mul ↦ refl
@@ -29,25 +29,25 @@ row-decoded (Calc o a b c) = elim o as (λ x. decoded (encoded (Calc x a b c)) �
   | Srl ↦ refl
   | Sra ↦ refl
 ]
-row-decoded (Divide p k a b c) = elim p as (λ x. decoded (encoded (Divide x k a b c)) ≡ Some (Divide x k a b c)) [
+row_decoded (Divide p k a b c) = elim p as (λ x. decoded (encoded (Divide x k a b c)) ≡ Some (Divide x k a b c)) [
   | Quotient ↦ elim k as (λ y. decoded (encoded (Divide Quotient y a b c)) ≡ Some (Divide Quotient y a b c)) [ Unsigned ↦ refl | TowardsZero ↦ refl | Downwards ↦ refl ]
   | Remainder ↦ elim k as (λ y. decoded (encoded (Divide Remainder y a b c)) ≡ Some (Divide Remainder y a b c)) [ Unsigned ↦ refl | TowardsZero ↦ refl | Downwards ↦ refl ]
 ]
-row-decoded (Load w a b n) = elim w as (λ x. decoded (encoded (Load x a b n)) ≡ Some (Load x a b n)) [ One ↦ refl | Two ↦ refl | Four ↦ refl ]
-row-decoded (Store w a b n) = elim w as (λ x. decoded (encoded (Store x a b n)) ≡ Some (Store x a b n)) [ One ↦ refl | Two ↦ refl | Four ↦ refl ]
-row-decoded (Bal n) = refl
-row-decoded (Branch t a b n) = elim t as (λ x. decoded (encoded (Branch x a b n)) ≡ Some (Branch x a b n)) [ Equal ↦ refl | Less ↦ refl | LessSigned ↦ refl ]
-row-decoded (Call a b n) = refl
-row-decoded (Ret a) = refl
-row-decoded (Get a c) = refl
-row-decoded (Put b c) = refl
-row-decoded Tick = refl
+row_decoded (Load w a b n) = elim w as (λ x. decoded (encoded (Load x a b n)) ≡ Some (Load x a b n)) [ One ↦ refl | Two ↦ refl | Four ↦ refl ]
+row_decoded (Store w a b n) = elim w as (λ x. decoded (encoded (Store x a b n)) ≡ Some (Store x a b n)) [ One ↦ refl | Two ↦ refl | Four ↦ refl ]
+row_decoded (Bal n) = refl
+row_decoded (Branch t a b n) = elim t as (λ x. decoded (encoded (Branch x a b n)) ≡ Some (Branch x a b n)) [ Equal ↦ refl | Less ↦ refl | LessSigned ↦ refl ]
+row_decoded (Call a b n) = refl
+row_decoded (Ret a) = refl
+row_decoded (Get a c) = refl
+row_decoded (Put b c) = refl
+row_decoded Tick = refl
 
 same_row : (x : Row) (op c n : ℕ) → op ≡ x.op → c ≡ x.c → n ≡ x.n → row op x.a x.b c n ≡ x
 same_row x op c n p q r = λ i. row (p i) x.a x.b (q i) (r i)
 
-opcode-back : (op : ℕ) → within 5 15 op ≡ true → within 8 9 op ≡ false → opcode (operation op) ≡ op
-opcode-back op h k =
+opcode_back : (op : ℕ) → within 5 15 op ≡ true → within 8 9 op ≡ false → opcode (operation op) ≡ op
+opcode_back op h k =
     cond_both (eqb op 5) _ _ (λ o. opcode o ≡ op) (λ e. grind (arith, nat_tests)) (λ e5.
     cond_both (eqb op 6) _ _ (λ o. opcode o ≡ op) (λ e. grind (arith, nat_tests)) (λ e6.
     cond_both (eqb op 7) _ _ (λ o. opcode o ≡ op) (λ e. grind (arith, nat_tests)) (λ e7.
@@ -65,7 +65,7 @@ back x h =
     cond_both (eqb x.op 3) _ _ (λ i. encoded i ≡ x) (λ e. grind (arith, nat_tests)) (λ n4.
     cond_both (eqb x.op 4) _ _ (λ i. encoded i ≡ x) (λ e. grind (arith, nat_tests)) (λ n5.
     cond_both (within 8 9 x.op) _ _ (λ i. encoded i ≡ x) (λ e. grind (arith, nat_tests)) (λ d.
-    cond_both (within 5 15 x.op) _ _ (λ i. encoded i ≡ x) (λ e. same_row x _ _ _ (opcode-back x.op e d) refl (grind (arith, nat_tests))) (λ n6.
+    cond_both (within 5 15 x.op) _ _ (λ i. encoded i ≡ x) (λ e. same_row x _ _ _ (opcode_back x.op e d) refl (grind (arith, nat_tests))) (λ n6.
     cond_both (eqb x.op 16) _ _ (λ i. encoded i ≡ x) (λ e. grind (arith, nat_tests)) (λ n7.
     cond_both (eqb x.op 17) _ _ (λ i. encoded i ≡ x) (λ e. grind (arith, nat_tests)) (λ n8.
     cond_both (eqb x.op 18) _ _ (λ i. encoded i ≡ x) (λ e. grind (arith, nat_tests)) (λ n9.
@@ -76,8 +76,8 @@ back x h =
     cond_both (eqb x.op 25) _ _ (λ i. encoded i ≡ x) (λ e. grind (arith, nat_tests)) (λ n14.
     let last : x.op ≡ 26 = grind (arith, nat_tests) in grind (arith, nat_tests))))))))))))))))
 
-pub row-unique : (i : Instr) (x : Row) → decoded x ≡ Some i → encoded i ≡ x
-row-unique i x e =
+pub row_unique : (i : Instr) (x : Row) → decoded x ≡ Some i → encoded i ≡ x
+row_unique i x e =
     ⊎_elim
     (λ h. let s : Some (instruction x) ≡ Some i = sym (cond-true _ _ _ h) ∙ e in
     let same : instruction x ≡ i = grind arith in

@@ -11,21 +11,21 @@ front rs a k h =
 pub copied_more : (rs : List Register) (b k : ℕ) → b + k < length rs → copied rs b (k + 1) ≡ copied rs b k ++ (variable (get_or rs (b + k) (variable 0)).value ∷ [])
 copied_more rs b k h = ap (map (λ x. variable x.value)) (front rs b k h) ∙ map_push (λ x. variable x.value) (take k (drop b rs)) (get_or rs (b + k) (variable 0))
 
-pub values-more : (rs : List Register) (a k : ℕ) → a + k < length rs → values_from rs a (k + 1) ≡ values_from rs a k ++ ((get_or rs (a + k) (variable 0)).value ∷ [])
-values-more rs a k h = ap (map (λ x. x.value)) (front rs a k h) ∙ map_push (λ x. x.value) (take k (drop a rs)) (get_or rs (a + k) (variable 0))
+pub values_more : (rs : List Register) (a k : ℕ) → a + k < length rs → values_from rs a (k + 1) ≡ values_from rs a k ++ ((get_or rs (a + k) (variable 0)).value ∷ [])
+values_more rs a k h = ap (map (λ x. x.value)) (front rs a k h) ∙ map_push (λ x. x.value) (take k (drop a rs)) (get_or rs (a + k) (variable 0))
 
 pub values_length : (rs : List Register) (a k : ℕ) → a + k ≤ length rs → length (values_from rs a k) ≡ k
 values_length rs a k h = length-map (take k (drop a rs)) (λ x. x.value) ∙ length-take-le k (drop a rs) (omega (arith, length-drop a rs))
 
-pub given-more : (vs : List ℕ) (rs : List Register) (a v : ℕ) → given rs a (vs ++ (v ∷ [])) ≡ set (given rs a vs) (a + length vs) (variable v)
-given-more [] rs a v = ap (λ n. set rs n (variable v)) (omega arith)
-given-more (x ∷ vs) rs a v =
+pub given_more : (vs : List ℕ) (rs : List Register) (a v : ℕ) → given rs a (vs ++ (v ∷ [])) ≡ set (given rs a vs) (a + length vs) (variable v)
+given_more [] rs a v = ap (λ n. set rs n (variable v)) (omega arith)
+given_more (x ∷ vs) rs a v =
     let r = set rs a (variable x) in
-    given-more vs r (a + 1) v ∙ ap (λ n. set (given r (a + 1) vs) n (variable v)) (omega arith)
+    given_more vs r (a + 1) v ∙ ap (λ n. set (given r (a + 1) vs) n (variable v)) (omega arith)
 
-pub given-length : (vs : List ℕ) (rs : List Register) (a : ℕ) → length (given rs a vs) ≡ length rs
-given-length [] rs a = refl
-given-length (x ∷ vs) rs a = given-length vs (set rs a (variable x)) (a + 1) ∙ length-set rs a (variable x)
+pub given_length : (vs : List ℕ) (rs : List Register) (a : ℕ) → length (given rs a vs) ≡ length rs
+given_length [] rs a = refl
+given_length (x ∷ vs) rs a = given_length vs (set rs a (variable x)) (a + 1) ∙ length-set rs a (variable x)
 
-pub copied-length : (rs : List Register) (b k : ℕ) → b + k ≤ length rs → length (copied rs b k) ≡ k
-copied-length rs b k h = length-map (take k (drop b rs)) (λ x. variable x.value) ∙ length-take-le k (drop b rs) (omega (arith, length-drop b rs))
+pub copied_length : (rs : List Register) (b k : ℕ) → b + k ≤ length rs → length (copied rs b k) ≡ k
+copied_length rs b k h = length-map (take k (drop b rs)) (λ x. variable x.value) ∙ length-take-le k (drop b rs) (omega (arith, length-drop b rs))

@@ -24,5 +24,5 @@ take_whole : (xs : List ℕ) → take (length xs) xs ≡ xs
 take_whole [] = refl
 take_whole (x ∷ xs) = ap (λ ys. x ∷ ys) (take_whole xs)
 
-pub filled-all : (xs : List ℕ) (k n : ℕ) → k ≡ length xs → filled xs k n ≡ xs ++ replicate (n - length xs) 0
-filled-all xs k n e = ap (λ j. filled xs j n) e ∙ ap (λ ys. ys ++ replicate (n - length xs) 0) (take_whole xs)
+pub filled_all : (xs : List ℕ) (k n : ℕ) → k ≡ length xs → filled xs k n ≡ xs ++ replicate (n - length xs) 0
+filled_all xs k n e = ap (λ j. filled xs j n) e ∙ ap (λ ys. ys ++ replicate (n - length xs) 0) (take_whole xs)

@@ -61,20 +61,20 @@ pub record Ready (bs : List ℕ) (l : Level) (x : Instr) : Type 0 where
   pub routine : l.routine < routines bs
   pub place : l.pc < count bs l.routine
 
-pub inside-parts : (bs : List ℕ) (r i : ℕ) → inside bs r i ≡ true → (r < routines bs) × (i < count bs r)
+pub inside_parts : (bs : List ℕ) (r i : ℕ) → inside bs r i ≡ true → (r < routines bs) × (i < count bs r)
 unfolding inside
-inside-parts bs r i h =
+inside_parts bs r i h =
     let p = and_parts (ltb r (routines bs)) (ltb i (count bs r)) h in
     (ltb-true r (routines bs) p.0, ltb-true i (count bs r) p.1)
 
-pub some-if : {X : Type 0} (b : Bool) (o : Option X) (x : X) → cond b o None ≡ Some x → b ≡ true
-some-if true o x e = refl
-some-if false o x e = let z : ◌≡◌ {A = ℕ} 0 1 = cc in absurd (omega arith)
+pub some_if : {X : Type 0} (b : Bool) (o : Option X) (x : X) → cond b o None ≡ Some x → b ≡ true
+some_if true o x e = refl
+some_if false o x e = let z : ◌≡◌ {A = ℕ} 0 1 = cc in absurd (omega arith)
 
 -- an instruction stands at a place that there is
 pub placed : (bs : List ℕ) (r i : ℕ) (x : Instr) → instr_at bs r i ≡ Some x → (r < routines bs) × (i < count bs r)
 unfolding instr_at
-placed bs r i x e = inside-parts bs r i (some-if (inside bs r i) (instr bs r i) x e)
+placed bs r i x e = inside_parts bs r i (some_if (inside bs r i) (instr bs r i) x e)
 
 ready_at : (bs : List ℕ) (l : Level) (x : Instr) → here bs l ≡ Some x → allowed_at bs l (here bs l) ≡ true → Ready bs l x
 unfolding allowed_at
@@ -115,41 +115,41 @@ pub record Calls (r : ℕ) (o : Option Instr) : Type 0 where
   pub b : ℕ
   pub is : o ≡ Some (Call a b r)
 
-pub calls-it : (r : ℕ) (o : Option Instr) → calls_routine r o ≡ true → Calls r o
+pub calls_it : (r : ℕ) (o : Option Instr) → calls_routine r o ≡ true → Calls r o
 unfolding calls_routine
-calls-it r None h = absurd (false≢true h)
-calls-it r (Some New) h = absurd (false≢true h)
-calls-it r (Some (Def n)) h = absurd (false≢true h)
-calls-it r (Some Kill) h = absurd (false≢true h)
-calls-it r (Some (Mov a b)) h = absurd (false≢true h)
-calls-it r (Some (Swap a b)) h = absurd (false≢true h)
-calls-it r (Some (Calc o a b c)) h = absurd (false≢true h)
-calls-it r (Some (Divide p k a b c)) h = absurd (false≢true h)
-calls-it r (Some (Load w a b n)) h = absurd (false≢true h)
-calls-it r (Some (Store w a b n)) h = absurd (false≢true h)
-calls-it r (Some (Bal n)) h = absurd (false≢true h)
-calls-it r (Some (Branch t a b n)) h = absurd (false≢true h)
-calls-it r (Some (Call a b n)) h = record { a = a; b = b; is = ap (λ m. Some (Call a b m)) (eqb-true n r h) }
-calls-it r (Some (Ret a)) h = absurd (false≢true h)
-calls-it r (Some (Get a c)) h = absurd (false≢true h)
-calls-it r (Some (Put b c)) h = absurd (false≢true h)
-calls-it r (Some Tick) h = absurd (false≢true h)
+calls_it r None h = absurd (false≢true h)
+calls_it r (Some New) h = absurd (false≢true h)
+calls_it r (Some (Def n)) h = absurd (false≢true h)
+calls_it r (Some Kill) h = absurd (false≢true h)
+calls_it r (Some (Mov a b)) h = absurd (false≢true h)
+calls_it r (Some (Swap a b)) h = absurd (false≢true h)
+calls_it r (Some (Calc o a b c)) h = absurd (false≢true h)
+calls_it r (Some (Divide p k a b c)) h = absurd (false≢true h)
+calls_it r (Some (Load w a b n)) h = absurd (false≢true h)
+calls_it r (Some (Store w a b n)) h = absurd (false≢true h)
+calls_it r (Some (Bal n)) h = absurd (false≢true h)
+calls_it r (Some (Branch t a b n)) h = absurd (false≢true h)
+calls_it r (Some (Call a b n)) h = record { a = a; b = b; is = ap (λ m. Some (Call a b m)) (eqb-true n r h) }
+calls_it r (Some (Ret a)) h = absurd (false≢true h)
+calls_it r (Some (Get a c)) h = absurd (false≢true h)
+calls_it r (Some (Put b c)) h = absurd (false≢true h)
+calls_it r (Some Tick) h = absurd (false≢true h)
 
 waits : (bs : List ℕ) (r : ℕ) (ls : List Level) → awaited bs r ls ≡ true → Waits bs r ls
 unfolding awaited
 waits bs r [] h = absurd (false≢true h)
 waits bs r (g ∷ gs) h =
     let p = and_parts (allowed_at bs g (here bs g)) (calls_routine r (here bs g)) h in
-    let call = calls-it r (here bs g) p.1 in
+    let call = calls_it r (here bs g) p.1 in
     record { a = call.a; b = call.b; some = omega arith; caller = ready_at bs g (Call call.a call.b r) call.is p.0 }
 
-or-true : (x y : Bool) → (x || y) ≡ true → x ≡ false → y ≡ true
-or-true x y h e = sym (ap (λ b. b || y) e) ∙ h
+or_true : (x y : Bool) → (x || y) ≡ true → x ≡ false → y ≡ true
+or_true x y h e = sym (ap (λ b. b || y) e) ∙ h
 
 -- a routine other than 0 that returns is waited for
 pub returning : (bs : List ℕ) (l : Level) (ls : List Level) (a : ℕ) → able bs l ls ≡ true → here bs l ≡ Some (Ret a) → (l.routine ≡ 0 → ⊥) → Waits bs l.routine ls
 unfolding able is_return
 returning bs l ls a h e n =
     let p = (and_parts (allowed_at bs l (here bs l)) _ h).1 in
-    let q = or-true (not (is_return (here bs l))) _ p (ap (λ o. not (is_return o)) e) in
-    waits bs l.routine ls (or-true (eqb l.routine 0) _ q (ne_eqb l.routine 0 n))
+    let q = or_true (not (is_return (here bs l))) _ p (ap (λ o. not (is_return o)) e) in
+    waits bs l.routine ls (or_true (eqb l.routine 0) _ q (ne_eqb l.routine 0 n))

@@ -7,32 +7,32 @@ use Rattle.machine.specs.Nested.{running as top, waiting}
 use Rattle.machine.specs.Sound.{NeverStuck, sound}
 use Rattle.machine.specs.View.{phase_of, levels_in, world_of}
 use Rattle.machine.specs.World.{World, world, running, able, step, step_of}
-use Rattle.machine.proofs.Legal.{some-if}
+use Rattle.machine.proofs.Legal.{some_if}
 
 -- soundness says nothing of the ports
-pub any-ports : (bs : List ℕ) (m : Machine) (ports later : List Port) → sound bs (world_of m ports) ≡ true → sound bs (world_of m later) ≡ true
+pub any_ports : (bs : List ℕ) (m : Machine) (ports later : List Port) → sound bs (world_of m ports) ≡ true → sound bs (world_of m later) ≡ true
 unfolding sound world_of
-any-ports bs m ports later h = h
+any_ports bs m ports later h = h
 
 module _ (bs : List ℕ) (never : NeverStuck bs) (m : Machine) (ports : List Port) (sounds : sound bs (world_of m ports) ≡ true) where
   -- a running machine that is as foretold has a step
-  pub has-step : m.state ≡ Running → able bs (top m.stack) (waiting m.stack) ≡ true
+  pub has_step : m.state ≡ Running → able bs (top m.stack) (waiting m.stack) ≡ true
   unfolding world_of step step_of
-  has-step run =
+  has_step run =
       let rule : List Port → List Port = λ ps. ps in
       let w = world running (top m.stack ∷ waiting m.stack) m.memory.bytes ports in
       let same : world_of m ports ≡ w = ap (λ s. world (phase_of s) (levels_in s m.stack) m.memory.bytes ports) run in
       let next = never.goes_on rule w refl (subst (λ (v : World). sound bs v ≡ true) same sounds) in
-      some-if (able bs (top m.stack) (waiting m.stack)) _ next.0 next.1
+      some_if (able bs (top m.stack) (waiting m.stack)) _ next.0 next.1
 
-  phase-running : m.state ≡ Running → (world_of m ports).phase ≡ running
+  phase_running : m.state ≡ Running → (world_of m ports).phase ≡ running
   unfolding world_of
-  phase-running run = ap phase_of run
+  phase_running run = ap phase_of run
 
   -- and is as foretold after it
-  pub stays-sound : (rule : List Port → List Port) (n : Machine) (later : List Port) → m.state ≡ Running → step bs rule (world_of m ports) ≡ Some (world_of n later) → sound bs (world_of n later) ≡ true
-  stays-sound rule n later run e =
-      let next = never.goes_on rule (world_of m ports) (phase-running run) sounds in
+  pub stays_sound : (rule : List Port → List Port) (n : Machine) (later : List Port) → m.state ≡ Running → step bs rule (world_of m ports) ≡ Some (world_of n later) → sound bs (world_of n later) ≡ true
+  stays_sound rule n later run e =
+      let next = never.goes_on rule (world_of m ports) (phase_running run) sounds in
       let both : Some next.0 ≡ Some (world_of n later) = sym next.1 ∙ e in
       let same : next.0 ≡ world_of n later = cc in
       subst (λ (v : World). sound bs v ≡ true) same next.2

@@ -2,7 +2,7 @@
 use Rattle.std.proofs.Common.{◌≡◌, ℕ, suc, ◌+◌, ◌-◌, ◌<◌, ◌≤◌, Bool, true, false, not, ◌||◌, eqb, ltb, List, [], ◌∷◌, map, length, get_or, take, drop, set, replicate, Some, None, Ok, Err, Option, Result, sym, refl, ap, ◌∙◌, subst, inl, inr, add-one, arith}
 use Rattle.std.proofs.lemmas.List.{map-set, set-get_or, map_push, take-map, length-take-le, length-drop}
 use Rattle.std.proofs.lemmas.Bool.{and_parts, and_from, or_left, or_right, cond-true, cond_both, eq-eqb, lt-ltb, false≢true}
-use Rattle.std.specs.List.{AllByRecursion as All}
+use Rattle.std.specs.List.{AllByRecursion}
 use Rattle.refusal.specs.Values.{Values}
 use Rattle.isa.specs.declared.instr.Instr.{Instr}
 use Rattle.isa.specs.declared.instr.Instr.TheVariants.{New, Def, Kill, Mov, Swap, Calc, Divide, Load, Store, Bal, Branch, Call, Ret, Get, Put, Tick}
@@ -21,8 +21,8 @@ use Rattle.module.specs.Places.{inside}
 use Rattle.module.specs.Rules.{stacks, calls, registers, constants, same_flag, same_shape}
 use Rattle.module.specs.Shape.{passed, shape}
 use Rattle.module.specs.Shape.{after as shape_after}
-use Rattle.module.proofs.Accepts.{accepts-laid, accepts-kept, accepts-rules, shapes-same}
-use Rattle.module.proofs.At.{an-instruction}
+use Rattle.module.proofs.Accepts.{accepts_laid, accepts_kept, accepts_rules, shapes_same}
+use Rattle.module.proofs.At.{an_instruction}
 use Rattle.machine.specs.declared.frame.Register.{Register}
 use Rattle.machine.specs.Level.{Level, level, variable, register, value, onward, wrote, jumped, copied, values_from, given}
 use Rattle.machine.specs.Memory.{fits, loading}
@@ -30,16 +30,16 @@ use Rattle.machine.specs.Sound.{AsForetold, is_foretold, all_foretold, linked, s
 use Rattle.machine.specs.World.{Phase, running, ended, tripped, World, Move, goes, trips, or_trip, or_refused, into, entered, resumed, handed, effect, shape_of, allowed, allowed_at, here, calls_routine, awaited, able, is_return, after, effect_here, step_of, while_running, step}
 use Rattle.machine.specs.World.{ends as the_end}
 use Rattle.machine.proofs.Copies.{values_length}
-use Rattle.machine.proofs.Legal.{length-shape, inside-parts, calls-it}
+use Rattle.machine.proofs.Legal.{length-shape, inside_parts, calls_it}
 
 -- a shape is the same as itself
-same_flag-itself : (f : Bool) → same_flag f f ≡ true
-same_flag-itself true = refl
-same_flag-itself false = refl
+same_flag_itself : (f : Bool) → same_flag f f ≡ true
+same_flag_itself true = refl
+same_flag_itself false = refl
 
-same-shape : (s : List Bool) → same_shape s s ≡ true
-same-shape [] = refl
-same-shape (f ∷ s) = and_from _ _ (same_flag-itself f) (same-shape s)
+same_shape_lem : (s : List Bool) → same_shape s s ≡ true
+same_shape_lem [] = refl
+same_shape_lem (f ∷ s) = and_from _ _ (same_flag_itself f) (same_shape_lem s)
 
 -- writing a register that is no constant keeps the shape
 shape-set : (rs : List Register) (a v : ℕ) → get_or (shape_of rs) a true ≡ false → shape_of (set rs a (variable v)) ≡ shape_of rs
@@ -63,11 +63,11 @@ shape-given (v ∷ vs) rs a h =
 shape-copied : (rs : List Register) (b n : ℕ) → b + n ≤ length rs → shape_of (copied rs b n) ≡ replicate n false
 shape-copied rs b n h =
     let all = length-take-le n (drop b rs) (omega (arith, length-drop b rs)) in
-    all-false (take n (drop b rs)) ∙ ap (λ k. replicate k false) all
+    all_false (take n (drop b rs)) ∙ ap (λ k. replicate k false) all
   where
-    all-false : (xs : List Register) → shape_of (map (λ x. variable x.value) xs) ≡ replicate (length xs) false
-    all-false [] = refl
-    all-false (x ∷ xs) = ap (λ s. false ∷ s) (all-false xs)
+    all_false : (xs : List Register) → shape_of (map (λ x. variable x.value) xs) ≡ replicate (length xs) false
+    all_false [] = refl
+    all_false (x ∷ xs) = ap (λ s. false ∷ s) (all_false xs)
 
 -- a register is one of the span of itself
 itself : (a : ℕ) → In (one a) a
@@ -79,14 +79,14 @@ module _ (bs : List ℕ) where
   unfolding is_foretold
   told l h =
       let p = and_parts (inside bs l.routine l.pc) _ h in
-      let q = inside-parts bs l.routine l.pc p.0 in
-      record { routine = q.0; place = q.1; registers = shapes-same _ _ p.1 }
+      let q = inside_parts bs l.routine l.pc p.0 in
+      record { routine = q.0; place = q.1; registers = shapes_same _ _ p.1 }
 
   tell : (l : Level) → AsForetold bs l → is_foretold bs l ≡ true
   unfolding is_foretold inside
   tell l t =
       let s = shape bs l.routine l.pc in
-      and_from _ _ (and_from _ _ (lt-ltb _ _ t.routine) (lt-ltb _ _ t.place)) (ap (λ x. same_shape x s) t.registers ∙ same-shape s)
+      and_from _ _ (and_from _ _ (lt-ltb _ _ t.routine) (lt-ltb _ _ t.place)) (ap (λ x. same_shape x s) t.registers ∙ same_shape_lem s)
 
   -- a routine that is as foretold, above those that wait
   in_place : (l : Level) (ls : List Level) → is_foretold bs l ≡ true → all_foretold bs ls ≡ true → linked bs l.routine ls ≡ true →
@@ -101,38 +101,38 @@ module _ (bs : List ℕ) where
   Fine (trips cause) = Unit {0}
 
   -- where it trips for want of a value, or for the host's refusal, there is no more to show than how it goes on
-  or-trip : (o : Option ℕ) (cause : CauseValues) (next : ℕ → Move) → ((v : ℕ) → Fine (next v)) → Fine (or_trip o cause next)
-  or-trip (Some v) cause next h = h v
-  or-trip None cause next h = tt
+  or_trip_lem : (o : Option ℕ) (cause : CauseValues) (next : ℕ → Move) → ((v : ℕ) → Fine (next v)) → Fine (or_trip o cause next)
+  or_trip_lem (Some v) cause next h = h v
+  or_trip_lem None cause next h = tt
 
-  or-refused : {X : Type 0} (o : Result X Values) (port : ℕ) (next : X → Move) → ((v : X) → Fine (next v)) → Fine (or_refused o port next)
-  or-refused (Ok v) port next h = h v
-  or-refused (Err e) port next h = tt
+  or_refused_lem : {X : Type 0} (o : Result X Values) (port : ℕ) (next : X → Move) → ((v : X) → Fine (next v)) → Fine (or_refused o port next)
+  or_refused_lem (Ok v) port next h = h v
+  or_refused_lem (Err e) port next h = tt
 
   -- and then the machine is as foretold
-  after-sound : (w : World) (l : Level) (m : Move) → sound_levels bs w.levels ≡ true → Fine m → sound bs (after w l m) ≡ true
+  after_sound : (w : World) (l : Level) (m : Move) → sound_levels bs w.levels ≡ true → Fine m → sound bs (after w l m) ≡ true
   unfolding after sound sound_in
-  after-sound w l (goes ls memory ports) h f = f
-  after-sound w l the_end h f = refl
-  after-sound w l (trips cause) h f = h
+  after_sound w l (goes ls memory ports) h f = f
+  after_sound w l the_end h f = refl
+  after_sound w l (trips cause) h f = h
 
   -- the test of all nested routines, read plainly
-  each : (ls : List Level) → all_foretold bs ls ≡ true → All (AsForetold bs) ls
+  each : (ls : List Level) → all_foretold bs ls ≡ true → AllByRecursion (AsForetold bs) ls
   unfolding all_foretold
   each [] h = tt
   each (l ∷ ls) h = let p = and_parts (is_foretold bs l) (all_foretold bs ls) h in (told l p.0, each ls p.1)
 
-  each-sound : (ls : List Level) → sound_levels bs ls ≡ true → All (AsForetold bs) ls
+  each_sound : (ls : List Level) → sound_levels bs ls ≡ true → AllByRecursion (AsForetold bs) ls
   unfolding sound_levels
-  each-sound [] h = tt
-  each-sound (l ∷ ls) h = each (l ∷ ls) (and_parts (all_foretold bs (l ∷ ls)) (linked bs l.routine ls) h).0
+  each_sound [] h = tt
+  each_sound (l ∷ ls) h = each (l ∷ ls) (and_parts (all_foretold bs (l ∷ ls)) (linked bs l.routine ls) h).0
 
-  each_in : (p : Phase) (ls : List Level) → sound_in bs p ls ≡ true → All (AsForetold bs) ls
+  each_in : (p : Phase) (ls : List Level) → sound_in bs p ls ≡ true → AllByRecursion (AsForetold bs) ls
   unfolding sound_in
-  each_in running ls h = each-sound ls h
+  each_in running ls h = each_sound ls h
   each_in ended [] h = tt
   each_in ended (l ∷ ls) h = absurd (false≢true h)
-  each_in (tripped trip) ls h = each-sound ls h
+  each_in (tripped trip) ls h = each_sound ls h
 
 module _ (bs : List ℕ) (ok : accepted bs ≡ true) where
   -- a routine that is as foretold stands at the instruction x, which keeps the rules there
@@ -144,8 +144,8 @@ module _ (bs : List ℕ) (ok : accepted bs ≡ true) where
 
   at : (l : Level) (x : Instr) → AsForetold bs l → here bs l ≡ Some x → At l x
   at l x t e =
-      let k = accepts-kept bs ok l.routine l.pc t.routine t.place in
-      let i : instr bs l.routine l.pc ≡ Some x = sym (an-instruction bs l.routine l.pc t.routine t.place) ∙ e in
+      let k = accepts_kept bs ok l.routine l.pc t.routine t.place in
+      let i : instr bs l.routine l.pc ≡ Some x = sym (an_instruction bs l.routine l.pc t.routine t.place) ∙ e in
       let found = k.1 in
       let same : k.0 ≡ x = cc in
       record { told = t; stands = e; is = i; kept = subst (Kept bs l.routine l.pc) same k.2 }
@@ -153,8 +153,8 @@ module _ (bs : List ℕ) (ok : accepted bs ≡ true) where
   -- there is such an instruction
   somewhere : (l : Level) → AsForetold bs l → (x : Instr) × At l x
   somewhere l t =
-      let k = accepts-kept bs ok l.routine l.pc t.routine t.place in
-      (k.0, at l k.0 t (an-instruction bs l.routine l.pc t.routine t.place ∙ k.1))
+      let k = accepts_kept bs ok l.routine l.pc t.routine t.place in
+      (k.0, at l k.0 t (an_instruction bs l.routine l.pc t.routine t.place ∙ k.1))
 
   module _ (l : Level) (x : Instr) (st : At l x) where
     -- a rule of the check at this instruction
@@ -162,12 +162,12 @@ module _ (bs : List ℕ) (ok : accepted bs ≡ true) where
     ruled f h = ap (passes f) (sym st.is) ∙ h
 
     -- the instruction has a rule
-    legal-here : allowed_at bs l (here bs l) ≡ true
+    legal_here : allowed_at bs l (here bs l) ≡ true
     unfolding allowed allowed_at
-    legal-here =
+    legal_here =
         let r = l.routine in
         let s = shape bs r l.pc in
-        let rule : (q : Rule) → _ = λ q. accepts-rules bs ok q r l.pc st.told.routine st.told.place in
+        let rule : (q : Rule) → _ = λ q. accepts_rules bs ok q r l.pc st.told.routine st.told.place in
         ap (allowed_at bs l) st.stands ∙ ap (allowed bs r x) st.told.registers
         ∙ and_from _ _ (ruled (stacks (length s)) (rule Stack))
         (and_from _ _ (ruled (calls bs) (rule Callee))
@@ -212,7 +212,7 @@ module _ (bs : List ℕ) (ok : accepted bs ≡ true) where
   hands r vs (g ∷ gs) memory ports h k n =
       let p = and_parts (is_foretold bs g) (all_foretold bs gs) h in
       let q = and_parts (calls_routine r (here bs g)) (linked bs g.routine gs) k in
-      let c = calls-it r (here bs g) q.0 in
+      let c = calls_it r (here bs g) q.0 in
       let call = at g (Call c.a c.b r) (told bs g p.0) c.is in
       in_place bs (resumed bs g vs) gs (back g c.a c.b r vs call n) p.1 q.1
 
@@ -229,14 +229,14 @@ module _ (bs : List ℕ) (ok : accepted bs ≡ true) where
     writes x a v st f s w = moves x (set l.registers a (variable v)) st f (shape-set l.registers a v (spared l x st a w) ∙ sym s)
 
     -- a routine begins with its arguments as variables
-    begins-with : (a b n : ℕ) → At l (Call a b n) → AsForetold bs (entered bs b n l)
+    begins_with : (a b n : ℕ) → At l (Call a b n) → AsForetold bs (entered bs b n l)
     unfolding entered
-    begins-with a b n st =
+    begins_with a b n st =
         let c = st.kept.called a b n refl in
         let room : b + arguments bs n ≤ length l.registers = deep l _ st c.1 in
         record {
           routine = c.0;
-          place = omega (arith, ((accepts-laid bs ok).entry n c.0).full);
+          place = omega (arith, ((accepts_laid bs ok).entry n c.0).full);
           registers = shape-copied l.registers b (arguments bs n) room;
         }
 
@@ -244,7 +244,7 @@ module _ (bs : List ℕ) (ok : accepted bs ≡ true) where
     enters : (a b n : ℕ) → At l (Call a b n) → sound_levels bs (entered bs b n l ∷ (l ∷ ls)) ≡ true
     unfolding entered all_foretold linked calls_routine
     enters a b n st =
-        in_place bs (entered bs b n l) (l ∷ ls) (tell bs (entered bs b n l) (begins-with a b n st)) (and_from _ _ h hs)
+        in_place bs (entered bs b n l) (l ∷ ls) (tell bs (entered bs b n l) (begins_with a b n st)) (and_from _ _ h hs)
         (and_from _ _ (ap (calls_routine n) st.stands ∙ eq-eqb n n refl) k)
 
     -- a routine that returns has all its results
@@ -268,9 +268,9 @@ module _ (bs : List ℕ) (ok : accepted bs ≡ true) where
         moves (Swap a b) _ st refl (shape-set (set rs a (variable (value l b))) b (value l a) (ap (λ s. get_or s b true) first ∙ free) ∙ first)
     fine (Calc o a b c) st = writes (Calc o a b c) a _ st refl refl (inl (itself a))
     fine (Divide p m a b c) st =
-        or-trip bs (divided p m (value l b) (value l c)) _ _ (λ v. writes (Divide p m a b c) a v st refl refl (inl (itself a)))
+        or_trip_lem bs (divided p m (value l b) (value l c)) _ _ (λ v. writes (Divide p m a b c) a v st refl refl (inl (itself a)))
     fine (Load w a b n) st =
-        or-trip bs (loading memory (value l b + n) w) _ _ (λ v. writes (Load w a b n) a v st refl refl (inl (itself a)))
+        or_trip_lem bs (loading memory (value l b + n) w) _ _ (λ v. writes (Load w a b n) a v st refl refl (inl (itself a)))
     fine (Store w a b n) st =
         cond_both (fits (value l b + n) w) _ _ (Fine bs) (λ _. moves (Store w a b n) l.registers st refl refl) (λ _. tt)
     fine (Bal n) st = in_place bs (jumped l n) ls (off l (Bal n) st n refl) hs k
@@ -281,18 +281,18 @@ module _ (bs : List ℕ) (ok : accepted bs ≡ true) where
     fine (Call a b n) st = cond_both (ltb (length ls) 31) _ _ (Fine bs) (λ _. enters a b n st) (λ _. tt)
     fine (Ret a) st =
         cond_both (eqb l.routine 0) _ _ (Fine bs) (λ _. tt) (λ _. hands l.routine _ ls memory ports hs k (gives a st))
-    fine (Get a c) st = or-refused bs (reading ports c) _ _ (λ v. writes (Get a c) a v st refl refl (inl (itself a)))
-    fine (Put b c) st = or-refused bs (writing ports c (value l b)) _ _ (λ _. moves (Put b c) l.registers st refl refl)
+    fine (Get a c) st = or_refused_lem bs (reading ports c) _ _ (λ v. writes (Get a c) a v st refl refl (inl (itself a)))
+    fine (Put b c) st = or_refused_lem bs (writing ports c (value l b)) _ _ (λ _. moves (Put b c) l.registers st refl refl)
     fine Tick st = moves Tick l.registers st refl refl
 
   -- as foretold, a routine that returns is waited for, or is the first
-  is-awaited : (r : ℕ) (ls : List Level) → all_foretold bs ls ≡ true → linked bs r ls ≡ true → (eqb r 0 || awaited bs r ls) ≡ true
+  is_awaited : (r : ℕ) (ls : List Level) → all_foretold bs ls ≡ true → linked bs r ls ≡ true → (eqb r 0 || awaited bs r ls) ≡ true
   unfolding awaited all_foretold linked
-  is-awaited r [] h k = or_left _ _ k
-  is-awaited r (g ∷ gs) h k =
+  is_awaited r [] h k = or_left _ _ k
+  is_awaited r (g ∷ gs) h k =
       let p = somewhere g (told bs g (and_parts (is_foretold bs g) (all_foretold bs gs) h).0) in
       let c = (and_parts (calls_routine r (here bs g)) (linked bs g.routine gs) k).0 in
-      or_right (eqb r 0) _ (and_from _ _ (legal-here g p.0 p.1) c)
+      or_right (eqb r 0) _ (and_from _ _ (legal_here g p.0 p.1) c)
 
   -- a next step, after which all is as foretold
   next : (rule : List Port → List Port) (w : World) (ls : List Level) → sound_levels bs w.levels ≡ true → sound_levels bs ls ≡ true →
@@ -305,16 +305,16 @@ module _ (bs : List ℕ) (ok : accepted bs ≡ true) where
       let s = somewhere l (told bs l q.0) in
       let m = effect bs rule s.0 l ls w.memory w.ports in
       let can : able bs l ls ≡ true
-      = and_from _ _ (legal-here l s.0 s.1) (or_right (not (is_return (here bs l))) _ (is-awaited l.routine ls q.1 p.1)) in (
+      = and_from _ _ (legal_here l s.0 s.1) (or_right (not (is_return (here bs l))) _ (is_awaited l.routine ls q.1 p.1)) in (
         after w l m,
         cond-true (able bs l ls) _ _ can ∙ ap (λ o. Some (after w l (effect_here bs rule o l ls w.memory w.ports))) s.1.stands,
-        after-sound bs w l m all (fine rule l ls w.memory w.ports q.0 q.1 p.1 s.0 s.1),
+        after_sound bs w l m all (fine rule l ls w.memory w.ports q.0 q.1 p.1 s.0 s.1),
       )
 
   -- routine 0 begins with no registers
-  first-place : AsForetold bs (level 0 0 [])
-  first-place =
-      let laid = accepts-laid bs ok in
+  first_place_lem : AsForetold bs (level 0 0 [])
+  first_place_lem =
+      let laid = accepts_laid bs ok in
       record {
         routine = omega (arith, laid.some);
         place = omega (arith, (laid.entry 0 (omega (arith, laid.some))).full);
@@ -325,7 +325,7 @@ module _ (bs : List ℕ) (ok : accepted bs ≡ true) where
 pub never_stuck : (bs : List ℕ) → accepted bs ≡ true → NeverStuck bs
 unfolding sound sound_in step all_foretold linked
 never_stuck bs ok = record {
-  begins = λ ports. in_place bs (level 0 0 []) [] (tell bs (level 0 0 []) (first-place bs ok)) refl refl;
+  begins = λ ports. in_place bs (level 0 0 []) [] (tell bs (level 0 0 []) (first_place_lem bs ok)) refl refl;
   goes_on = λ rule w e h.
       let all = ap (λ p. sound_in bs p w.levels) (sym e) ∙ h in
       let n = next bs ok rule w w.levels all all in

@@ -19,20 +19,20 @@ standing bs s routine pc x e r p = (λ i. instr_at bs (sym r i) (sym p i)) ∙ s
 
 module _ (bs : List ℕ) (rule : List Port → List Port) (m : Machine) (ports : List Port) (run : m.state ≡ Running)
     (can : able bs (top m.stack) (waiting m.stack) ≡ true) where
-  running-world : world_of m ports ≡ world running (top m.stack ∷ waiting m.stack) m.memory.bytes ports
+  running_world : world_of m ports ≡ world running (top m.stack ∷ waiting m.stack) m.memory.bytes ports
   unfolding world_of
-  running-world = ap (λ s. world (phase_of s) (levels_in s m.stack) m.memory.bytes ports) run
+  running_world = ap (λ s. world (phase_of s) (levels_in s m.stack) m.memory.bytes ports) run
 
   -- the step, by what its instruction comes to
   pub base : (x : Instr) (move : Move) → here bs (top m.stack) ≡ Some x → effect bs rule x (top m.stack) (waiting m.stack) m.memory.bytes ports ≡ move →
       step bs rule (world_of m ports) ≡ Some (after (world_of m ports) (top m.stack) move)
   unfolding step step_of
   base x move e is =
-      ap (step bs rule) running-world
+      ap (step bs rule) running_world
       ∙ cond-true (able bs (top m.stack) (waiting m.stack)) _ _ can
       ∙ ap (λ o. Some (after (world running (top m.stack ∷ waiting m.stack) m.memory.bytes ports) (top m.stack)
       (effect_here bs rule o (top m.stack) (waiting m.stack) m.memory.bytes ports))) e
-      ∙ (λ i. Some (after (sym running-world i) (top m.stack) (is i)))
+      ∙ (λ i. Some (after (sym running_world i) (top m.stack) (is i)))
 
   module _ (x : Instr) (stands : here bs (top m.stack) ≡ Some x) where
     -- the run goes on
@@ -47,11 +47,11 @@ module _ (bs : List ℕ) (rule : List Port → List Port) (m : Machine) (ports :
         ∙ ap (λ state. Some (world (phase_of state) (levels_in state n.stack) n.memory.bytes later)) (sym (s ∙ run))
 
     -- it trips
-    pub tripped-here : (n : Machine) (later : List Port) (cause : CauseValues) →
+    pub tripped_here : (n : Machine) (later : List Port) (cause : CauseValues) →
         effect bs rule x (top m.stack) (waiting m.stack) m.memory.bytes ports ≡ trips cause →
         later ≡ ports → ((ps : List Port) → world_of n ps ≡ after (world_of m ps) (top m.stack) (trips cause)) →
         step bs rule (world_of m ports) ≡ Some (world_of n later)
-    tripped-here n later cause is same e = base x _ stands is ∙ ap Some (sym (e ports)) ∙ ap (λ ps. Some (world_of n ps)) (sym same)
+    tripped_here n later cause is same e = base x _ stands is ∙ ap Some (sym (e ports)) ∙ ap (λ ps. Some (world_of n ps)) (sym same)
 
 module _ (m : Machine) (ports : List Port) (run : m.state ≡ Running) where
   -- a machine that goes on with other routines

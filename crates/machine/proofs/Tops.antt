@@ -6,8 +6,8 @@ use Rattle.machine.specs.declared.stack.Stack.{Stack}
 use Rattle.machine.specs.Level.{Level, level_of}
 use Rattle.machine.specs.Nested.{Sized, none, level_at, below, running, waiting}
 
-pub level-at : (frames : List Frame) (k : ℕ) (d : Frame) → k < length frames → level_at frames k ≡ level_of (get_or frames k d)
-level-at frames k d h = get_or-map level_of frames k d none h
+pub level_at_lem : (frames : List Frame) (k : ℕ) (d : Frame) → k < length frames → level_at frames k ≡ level_of (get_or frames k d)
+level_at_lem frames k d h = get_or-map level_of frames k d none h
 
 pub length-below : (frames : List Frame) (n : ℕ) → length (below frames n) ≡ n
 length-below frames zero = refl
@@ -29,10 +29,10 @@ below_set frames k (suc n) f h =
     let rest = below_set frames k n f (omega arith) in
     cc
 
-pub depth-at : (frames : List Frame) (k : ℕ) (d : Frame) → k < length frames → length (level_at frames k).registers ≡ (get_or frames k d).depth
-depth-at frames k d h =
+pub depth_at : (frames : List Frame) (k : ℕ) (d : Frame) → k < length frames → length (level_at frames k).registers ≡ (get_or frames k d).depth
+depth_at frames k d h =
     let f = get_or frames k d in
-    ap (λ l. length l.registers) (level-at frames k d h) ∙ length-take-le f.depth f.registers (omega (arith, f.few, f.whole))
+    ap (λ l. length l.registers) (level_at_lem frames k d h) ∙ length-take-le f.depth f.registers (omega (arith, f.few, f.whole))
 
 pub below_more : (frames : List Frame) (n : ℕ) → below frames (n + 1) ≡ level_at frames n ∷ below frames n
 below_more frames n = ap (below frames) (add-one n)
@@ -47,16 +47,16 @@ pub record Replaced (s : Stack) (l : Level) (t : Stack) : Type 0 where
   pub sized : Sized t
 
 module _ (s : Stack) (sized : Sized s) where
-  pub running-is : (d : Frame) → running s ≡ level_of (get_or s.frames s.top d)
+  pub running_is : (d : Frame) → running s ≡ level_of (get_or s.frames s.top d)
   unfolding running
-  running-is d = level-at s.frames s.top d (omega (arith, sized.nested, sized.whole))
+  running_is d = level_at_lem s.frames s.top d (omega (arith, sized.nested, sized.whole))
 
   pub depth_is : (d : Frame) → length (running s).registers ≡ (get_or s.frames s.top d).depth
   unfolding running
-  depth_is d = depth-at s.frames s.top d (omega (arith, sized.nested, sized.whole))
+  depth_is d = depth_at s.frames s.top d (omega (arith, sized.nested, sized.whole))
 
-  pub pc-is : (d : Frame) → (running s).pc ≡ (get_or s.frames s.top d).pc
-  pc-is d = ap (λ l. l.pc) (running-is d)
+  pub pc_is : (d : Frame) → (running s).pc ≡ (get_or s.frames s.top d).pc
+  pc_is d = ap (λ l. l.pc) (running_is d)
 
   pub replaced : (f : Frame) (l : Level) → level_of f ≡ l → Replaced s l (record { frames = set s.frames s.top f; top = s.top })
   unfolding running waiting

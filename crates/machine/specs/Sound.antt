@@ -1,6 +1,6 @@
 -- What the check foretold of a run, and that no step is ever without a rule.
 use Rattle.std.specs.Prelude.{◌≡◌, ℕ, ◌-◌, ◌<◌, Bool, true, false, ◌&&◌, List, [], ◌∷◌, ◌++◌, length, replicate, Some, ◌==◌}
-use Rattle.std.specs.List.{AllByRecursion as All}
+use Rattle.std.specs.List.{AllByRecursion}
 use Rattle.host.specs.declared.port.Port.{Port}
 use Rattle.module.specs.Layout.{routines, count}
 use Rattle.module.specs.Places.{inside}
@@ -57,4 +57,4 @@ pub record NeverStuck (bs : List ℕ) : Type 0 where
   pub begins : (ports : List Port) → sound bs (begun bs ports) ≡ true
   pub goes_on : (rule : List Port → List Port) (w : World) → w.phase ≡ running → sound bs w ≡ true →
       (v : World) × (step bs rule w ≡ Some v) × (sound bs v ≡ true)
-  pub foretold : (w : World) → sound bs w ≡ true → All (AsForetold bs) w.levels
+  pub foretold : (w : World) → sound bs w ≡ true → AllByRecursion (AsForetold bs) w.levels

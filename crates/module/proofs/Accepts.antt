@@ -26,7 +26,7 @@ use Rattle.module.specs.Rules.{stacks, calls, access_in, both, fits, registers, 
 use Rattle.module.specs.Shape.{shape}
 use Rattle.module.specs.Told.{Sound, bytes_of}
 use Rattle.module.specs.Verdict.{breach, or_next, tried}
-use Rattle.module.proofs.Depths.{depth-kept}
+use Rattle.module.proofs.Depths.{depth_kept}
 use Rattle.module.proofs.Opens.{laid}
 use Rattle.module.proofs.Passes.{everywhere}
 
@@ -36,8 +36,8 @@ counted bs c e =
     = and_from _ _ (eq-eqb (routines bs) _ refl) (and_from _ _ (eq-eqb (image_length bs) _ refl) (eq-eqb (total bs) _ refl)) in
     ap (counts_of bs) e ∙ all
 
-pub counts-from : (bs : List ℕ) (c : Counts) → counts_of bs c ≡ true → c ≡ counts bs
-counts-from bs c h =
+pub counts_from : (bs : List ℕ) (c : Counts) → counts_of bs c ≡ true → c ≡ counts bs
+counts_from bs c h =
     let n : c.routines ≡ routines bs = grind (arith, nat_tests) in
     let d : c.image ≡ image_length bs = grind (arith, nat_tests) in
     let t : c.total ≡ total bs = grind (arith, nat_tests) in
@@ -50,45 +50,45 @@ parts bs h =
     let q = and_parts (is_ok (opening bs)) (is_ok (tried rules bs)) p.1 in
     (p.0, q.0, q.1)
 
-octets-at : (bs : List ℕ) → octets bs ≡ true → Octets bs
-octets-at [] h k = omega arith
-octets-at (b ∷ bs) h zero = ltb-true b 256 (and_parts (ltb b 256) (octets bs) h).0
-octets-at (b ∷ bs) h (suc k) = octets-at bs (and_parts (ltb b 256) (octets bs) h).1 k
+octets_at : (bs : List ℕ) → octets bs ≡ true → Octets bs
+octets_at [] h k = omega arith
+octets_at (b ∷ bs) h zero = ltb-true b 256 (and_parts (ltb b 256) (octets bs) h).0
+octets_at (b ∷ bs) h (suc k) = octets_at bs (and_parts (ltb b 256) (octets bs) h).1 k
 
-octets-from : (bs : List ℕ) → Octets bs → octets bs ≡ true
-octets-from [] h = refl
-octets-from (b ∷ bs) h = and_from _ _ (lt-ltb b 256 (h 0)) (octets-from bs (λ k. h (suc k)))
+octets_from : (bs : List ℕ) → Octets bs → octets bs ≡ true
+octets_from [] h = refl
+octets_from (b ∷ bs) h = and_from _ _ (lt-ltb b 256 (h 0)) (octets_from bs (λ k. h (suc k)))
 
 -- an answer of the rules over bytes that open
-pub accepts-by : (r : Result (Unit {0}) Refusal) (bs : List ℕ) → told r ≡ tried rules bs → is_ok (opening bs) ≡ true → Octets bs → IfOk r (λ _. accepted bs ≡ true)
-accepts-by (Ok u) bs e opens each = and_from _ _ (octets-from bs each) (and_from _ _ opens (ap is_ok (sym e)))
-accepts-by (Err x) bs e opens each = tt
+pub accepts_by : (r : Result (Unit {0}) Refusal) (bs : List ℕ) → told r ≡ tried rules bs → is_ok (opening bs) ≡ true → Octets bs → IfOk r (λ _. accepted bs ≡ true)
+accepts_by (Ok u) bs e opens each = and_from _ _ (octets_from bs each) (and_from _ _ opens (ap is_ok (sym e)))
+accepts_by (Err x) bs e opens each = tt
 
-pub accepts-octets : (bs : List ℕ) → accepted bs ≡ true → Octets bs
-accepts-octets bs h = octets-at bs (parts bs h).0
+pub accepts_octets : (bs : List ℕ) → accepted bs ≡ true → Octets bs
+accepts_octets bs h = octets_at bs (parts bs h).0
 
-pub accepts-laid : (bs : List ℕ) → accepted bs ≡ true → Laid bs
-accepts-laid bs h = laid bs (parts bs h).1
+pub accepts_laid : (bs : List ℕ) → accepted bs ≡ true → Laid bs
+accepts_laid bs h = laid bs (parts bs h).1
 
 -- a checked module is sound
-pub checked-sound : (o : Opened) → accepted (bytes_of o) ≡ true → counts_of (bytes_of o) o.counts ≡ true → Sound o
-checked-sound o keeps same = record { laid = accepts-laid (bytes_of o) keeps; counted = counts-from (bytes_of o) o.counts same }
+pub checked_sound : (o : Opened) → accepted (bytes_of o) ≡ true → counts_of (bytes_of o) o.counts ≡ true → Sound o
+checked_sound o keeps same = record { laid = accepts_laid (bytes_of o) keeps; counted = counts_from (bytes_of o) o.counts same }
 
-next-ok : (q : Rule) (o : Option Place) (next : Result (Unit {0}) Values) → is_ok (or_next q o next) ≡ true → (o ≡ None) × (is_ok next ≡ true)
-next-ok q None next h = (refl, h)
-next-ok q (Some p) next h = absurd (false≢true h)
+next_ok : (q : Rule) (o : Option Place) (next : Result (Unit {0}) Values) → is_ok (or_next q o next) ≡ true → (o ≡ None) × (is_ok next ≡ true)
+next_ok q None next h = (refl, h)
+next_ok q (Some p) next h = absurd (false≢true h)
 
 -- all rules hold everywhere
-rules-hold : (bs : List ℕ) → is_ok (tried rules bs) ≡ true → (q : Rule) → Everywhere q bs
-rules-hold bs h =
+rules_hold : (bs : List ℕ) → is_ok (tried rules bs) ≡ true → (q : Rule) → Everywhere q bs
+rules_hold bs h =
     let n = routines bs in
-    let a = next-ok Form (breach Form bs n 0) _ h in
-    let b = next-ok Stack (breach Stack bs n 0) _ a.1 in
-    let c = next-ok Callee (breach Callee bs n 0) _ b.1 in
-    let d = next-ok Registers (breach Registers bs n 0) _ c.1 in
-    let e = next-ok Constants (breach Constants bs n 0) _ d.1 in
-    let f = next-ok Target (breach Target bs n 0) _ e.1 in
-    let g = next-ok Ending (breach Ending bs n 0) _ f.1 in
+    let a = next_ok Form (breach Form bs n 0) _ h in
+    let b = next_ok Stack (breach Stack bs n 0) _ a.1 in
+    let c = next_ok Callee (breach Callee bs n 0) _ b.1 in
+    let d = next_ok Registers (breach Registers bs n 0) _ c.1 in
+    let e = next_ok Constants (breach Constants bs n 0) _ d.1 in
+    let f = next_ok Target (breach Target bs n 0) _ e.1 in
+    let g = next_ok Ending (breach Ending bs n 0) _ f.1 in
     λ q. elim q as (λ p. Everywhere p bs) [
       | Form ↦ everywhere Form bs a.0
       | Stack ↦ everywhere Stack bs b.0
@@ -99,40 +99,40 @@ rules-hold bs h =
       | Ending ↦ everywhere Ending bs g.0
     ]
 
-pub accepts-rules : (bs : List ℕ) → accepted bs ≡ true → (q : Rule) → Everywhere q bs
-accepts-rules bs h = rules-hold bs (parts bs h).2
+pub accepts_rules : (bs : List ℕ) → accepted bs ≡ true → (q : Rule) → Everywhere q bs
+accepts_rules bs h = rules_hold bs (parts bs h).2
 
 -- an equation from the test of it
-flags-same : (f g : Bool) → same_flag f g ≡ true → f ≡ g
-flags-same true g h = sym h
-flags-same false true h = absurd (false≢true h)
-flags-same false false h = refl
+flags_same : (f g : Bool) → same_flag f g ≡ true → f ≡ g
+flags_same true g h = sym h
+flags_same false true h = absurd (false≢true h)
+flags_same false false h = refl
 
-pub shapes-same : (s t : List Bool) → same_shape s t ≡ true → s ≡ t
-shapes-same [] [] h = refl
-shapes-same [] (g ∷ t) h = absurd (false≢true h)
-shapes-same (f ∷ s) [] h = absurd (false≢true h)
-shapes-same (f ∷ s) (g ∷ t) h =
+pub shapes_same : (s t : List Bool) → same_shape s t ≡ true → s ≡ t
+shapes_same [] [] h = refl
+shapes_same [] (g ∷ t) h = absurd (false≢true h)
+shapes_same (f ∷ s) [] h = absurd (false≢true h)
+shapes_same (f ∷ s) (g ∷ t) h =
     let p = and_parts (same_flag f g) (same_shape s t) h in
-    λ i. flags-same f g p.0 i ∷ shapes-same s t p.1 i
+    λ i. flags_same f g p.0 i ∷ shapes_same s t p.1 i
 
 -- a variable of a span
-variable-at : (s : List Bool) (k : ℕ) → variables s ≡ true → k < length s → get_or s k true ≡ false
-variable-at [] k h lt = absurd (omega arith)
-variable-at (f ∷ s) zero h lt = not-true f (and_parts (not f) (variables s) h).0
-variable-at (f ∷ s) (suc k) h lt = variable-at s k (and_parts (not f) (variables s) h).1 (omega arith)
+variable_at : (s : List Bool) (k : ℕ) → variables s ≡ true → k < length s → get_or s k true ≡ false
+variable_at [] k h lt = absurd (omega arith)
+variable_at (f ∷ s) zero h lt = not-true f (and_parts (not f) (variables s) h).0
+variable_at (f ∷ s) (suc k) h lt = variable_at s k (and_parts (not f) (variables s) h).1 (omega arith)
 
-in-depth : (d : ℕ) (p : Span) (k : ℕ) → fits d p ≡ true → In p k → k < d
-in-depth d p k h m = omega (arith, leb-true (p.first + p.len) d h, m.0, m.1)
+in_depth : (d : ℕ) (p : Span) (k : ℕ) → fits d p ≡ true → In p k → k < d
+in_depth d p k h m = omega (arith, leb-true (p.first + p.len) d h, m.0, m.1)
 
-in-variables : (s : List Bool) (p : Span) (k : ℕ) → spares s p ≡ true → In p k → k < length s → get_or s k true ≡ false
-in-variables s p k h m lt =
+in_variables : (s : List Bool) (p : Span) (k : ℕ) → spares s p ≡ true → In p k → k < length s → get_or s k true ≡ false
+in_variables s p k h m lt =
     let j = k - p.first in
     let e : p.first + j ≡ k = omega (arith, m.0) in
     let part = drop p.first s in
     let small : j < length (take p.len part) = omega (arith, length-take p.len part, length-drop p.first s, m.0, m.1) in
     sym (get_or-take p.len part j true (omega (arith, m.0, m.1)) ∙ get_or-drop p.first s j true ∙ ap (λ x. get_or s x true) e)
-    ∙ variable-at (take p.len part) j h small
+    ∙ variable_at (take p.len part) j h small
 
 module _ (bs : List ℕ) (ok : Laid bs) (all : (q : Rule) → Everywhere q bs) (r i : ℕ) (lr : r < routines bs) (li : i < count bs r) (x : Instr) (e : instr bs r i ≡ Some x) where
   abbrev deep : ℕ
@@ -163,8 +163,8 @@ module _ (bs : List ℕ) (ok : Laid bs) (all : (q : Rule) → Everywhere q bs) (
   reads_fit : both (fits deep) (access_in bs r x).reads ≡ true
   reads_fit = (and_parts (both (fits deep) (access_in bs r x).reads) (both (fits deep) (access_in bs r x).writes) fit).0
 
-  writes-fit : both (fits deep) (access_in bs r x).writes ≡ true
-  writes-fit = (and_parts (both (fits deep) (access_in bs r x).reads) (both (fits deep) (access_in bs r x).writes) fit).1
+  writes_fit : both (fits deep) (access_in bs r x).writes ≡ true
+  writes_fit = (and_parts (both (fits deep) (access_in bs r x).reads) (both (fits deep) (access_in bs r x).writes) fit).1
 
   -- of two spans that pass a test
   one_of : (f : Span → Bool) (P : Type 0) (p : Span × Span) (k : ℕ) → both f p ≡ true → ((q : Span) → f q ≡ true → In q k → P) → In p.0 k ⊎ In p.1 k → P
@@ -172,10 +172,10 @@ module _ (bs : List ℕ) (ok : Laid bs) (all : (q : Rule) → Everywhere q bs) (
       let t = and_parts (f p.0) (f p.1) h in ⊎_elim (g p.0 t.0) (g p.1 t.1)
 
   reads_in : (k : ℕ) → Reads bs r x k → k < deep
-  reads_in k = one_of (fits deep) (k < deep) (access_in bs r x).reads k reads_fit (λ q h. in-depth deep q k h)
+  reads_in k = one_of (fits deep) (k < deep) (access_in bs r x).reads k reads_fit (λ q h. in_depth deep q k h)
 
-  writes-in : (k : ℕ) → Writes bs r x k → k < deep
-  writes-in k = one_of (fits deep) (k < deep) (access_in bs r x).writes k writes-fit (λ q h. in-depth deep q k h)
+  writes_in : (k : ℕ) → Writes bs r x k → k < deep
+  writes_in k = one_of (fits deep) (k < deep) (access_in bs r x).writes k writes_fit (λ q h. in_depth deep q k h)
 
   pub kept : Kept bs r i x
   kept = record {
@@ -194,21 +194,21 @@ module _ (bs : List ℕ) (ok : Laid bs) (all : (q : Rule) → Everywhere q bs) (
         let spans : registers bs r deep (Ret a) ≡ true = ap (registers bs r deep) (sym p) ∙ fit in grind (arith, nat_tests);
     read = reads_in;
     written = λ k m.
-        let lt = writes-in k m in
-        (lt, one_of (spares (shape bs r i)) (get_or (shape bs r i) k true ≡ false) (access_in bs r x).writes k spare (λ q h w. in-variables (shape bs r i) q k h w lt) m);
+        let lt = writes_in k m in
+        (lt, one_of (spares (shape bs r i)) (get_or (shape bs r i) k true ≡ false) (access_in bs r x).writes k spare (λ q h w. in_variables (shape bs r i) q k h w lt) m);
     aimed = λ n p.
         let there : (ltb n (count bs r) && same_shape (shape bs r n) (shape bs r i)) ≡ true
         = ap (passes (λ m. ltb m (count bs r) && same_shape (shape bs r m) (shape bs r i))) (sym p) ∙ aim in
         let parts = and_parts (ltb n (count bs r)) (same_shape (shape bs r n) (shape bs r i)) there in
-        (ltb-true n (count bs r) parts.0, shapes-same (shape bs r n) (shape bs r i) parts.1);
+        (ltb-true n (count bs r) parts.0, shapes_same (shape bs r n) (shape bs r i) parts.1);
     closed = λ p. ap (λ b. not b || ends x) (sym (eq-eqb (i + 1) (count bs r) p)) ∙ close;
-    shallow = depth-kept ok r lr (all Stack) i (omega arith);
+    shallow = depth_kept ok r lr (all Stack) i (omega arith);
   }
 
 -- an accepted module keeps the rules at every instruction
-pub accepts-kept : (bs : List ℕ) → accepted bs ≡ true → KeptEverywhere bs
-accepts-kept bs h r i lr li =
-    let all = accepts-rules bs h in
+pub accepts_kept : (bs : List ℕ) → accepted bs ≡ true → KeptEverywhere bs
+accepts_kept bs h r i lr li =
+    let all = accepts_rules bs h in
     let x = instruction (row_at bs r i) in
     let e : instr bs r i ≡ Some x = cond-true (well_formed (row_at bs r i)) (Some x) None (all Form r i lr li) in
-    (x, e, kept bs (accepts-laid bs h) all r i lr li x e)
+    (x, e, kept bs (accepts_laid bs h) all r i lr li x e)

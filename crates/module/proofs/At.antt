@@ -5,24 +5,24 @@ use Rattle.module.specs.Layout.{routines, count, signature, instr}
 use Rattle.module.specs.Places.{inside, instr_at, signature_at}
 
 module _ (bs : List ℕ) (r : ℕ) where
-  pub no-signature : routines bs ≤ r → signature_at bs r ≡ None
+  pub no_signature : routines bs ≤ r → signature_at bs r ≡ None
   unfolding signature_at
-  no-signature h = cond-false (ltb r (routines bs)) _ _ (le-ltb r (routines bs) h)
+  no_signature h = cond-false (ltb r (routines bs)) _ _ (le-ltb r (routines bs) h)
 
-  pub a-signature : r < routines bs → signature_at bs r ≡ Some (signature bs r)
+  pub a_signature : r < routines bs → signature_at bs r ≡ Some (signature bs r)
   unfolding signature_at
-  a-signature h = cond-true (ltb r (routines bs)) _ _ (lt-ltb r (routines bs) h)
+  a_signature h = cond-true (ltb r (routines bs)) _ _ (lt-ltb r (routines bs) h)
 
   module _ (i : ℕ) where
-    pub no-routine : routines bs ≤ r → instr_at bs r i ≡ None
+    pub no_routine : routines bs ≤ r → instr_at bs r i ≡ None
     unfolding instr_at inside
-    no-routine h = cond-false (ltb r (routines bs) && ltb i (count bs r)) _ _ (and_left _ _ (le-ltb r (routines bs) h))
+    no_routine h = cond-false (ltb r (routines bs) && ltb i (count bs r)) _ _ (and_left _ _ (le-ltb r (routines bs) h))
 
-    pub no-instruction : count bs r ≤ i → instr_at bs r i ≡ None
+    pub no_instruction : count bs r ≤ i → instr_at bs r i ≡ None
     unfolding instr_at inside
-    no-instruction h = cond-false (ltb r (routines bs) && ltb i (count bs r)) _ _ (and_right _ _ (le-ltb i (count bs r) h))
+    no_instruction h = cond-false (ltb r (routines bs) && ltb i (count bs r)) _ _ (and_right _ _ (le-ltb i (count bs r) h))
 
-    pub an-instruction : r < routines bs → i < count bs r → instr_at bs r i ≡ instr bs r i
+    pub an_instruction : r < routines bs → i < count bs r → instr_at bs r i ≡ instr bs r i
     unfolding instr_at inside
-    an-instruction h k =
+    an_instruction h k =
         cond-true (ltb r (routines bs) && ltb i (count bs r)) _ _ (and_from _ _ (lt-ltb r (routines bs) h) (lt-ltb i (count bs r) k))

@@ -52,11 +52,11 @@ module _ {bs : List ℕ} (ok : Laid bs) (r : ℕ) (lt : r < routines bs) where
   begins = omega (arith, length-replicate (arguments bs r) false, (ok.entry r lt).takes)
 
   -- whatever the instructions are
-  pub depth-grows : (i : ℕ) → length (shape bs r i) ≤ 32 + i
-  depth-grows zero = omega (arith, begins)
-  depth-grows (suc i) = omega (arith, after_more (instr bs r i) (shape bs r i), depth-grows i)
+  pub depth_grows : (i : ℕ) → length (shape bs r i) ≤ 32 + i
+  depth_grows zero = omega (arith, begins)
+  depth_grows (suc i) = omega (arith, after_more (instr bs r i) (shape bs r i), depth_grows i)
 
   -- where the stack rule holds
-  pub depth-kept : Everywhere Stack bs → (i : ℕ) → i ≤ count bs r → length (shape bs r i) ≤ 32
-  depth-kept all zero h = begins
-  depth-kept all (suc i) h = after_kept (instr bs r i) (shape bs r i) (all r i lt (omega arith)) (depth-kept all i (omega arith))
+  pub depth_kept : Everywhere Stack bs → (i : ℕ) → i ≤ count bs r → length (shape bs r i) ≤ 32
+  depth_kept all zero h = begins
+  depth_kept all (suc i) h = after_kept (instr bs r i) (shape bs r i) (all r i lt (omega arith)) (depth_kept all i (omega arith))

@@ -8,51 +8,51 @@ module _ (test : ℕ → Bool) where
   pub first_more : (n k : ℕ) → k < n → test k ≡ true → first_failing test (n - k) k ≡ first_failing test (n - (k + 1)) (k + 1)
   first_more n k lt ok = let e : n - k ≡ suc (n - (k + 1)) = omega arith in ap (λ l. first_failing test l k) e ∙ cond-true _ _ _ ok
 
-  pub first-stop : (n k : ℕ) → k < n → test k ≡ false → first_failing test (n - k) k ≡ Some k
-  first-stop n k lt bad = let e : n - k ≡ suc (n - (k + 1)) = omega arith in ap (λ l. first_failing test l k) e ∙ cond-false _ _ _ bad
+  pub first_stop : (n k : ℕ) → k < n → test k ≡ false → first_failing test (n - k) k ≡ Some k
+  first_stop n k lt bad = let e : n - k ≡ suc (n - (k + 1)) = omega arith in ap (λ l. first_failing test l k) e ∙ cond-false _ _ _ bad
 
-  pub first-none : (left k : ℕ) → first_failing test left k ≡ None → (j : ℕ) → k ≤ j → j < k + left → test j ≡ true
-  first-none zero k e j g h = absurd (omega arith)
-  first-none (suc left) k e j g h =
+  pub first_none : (left k : ℕ) → first_failing test left k ≡ None → (j : ℕ) → k ≤ j → j < k + left → test j ≡ true
+  first_none zero k e j g h = absurd (omega arith)
+  first_none (suc left) k e j g h =
       ⊎_elim
       (λ b. ⊎_elim
       (λ a. subst (λ x. test x ≡ true) (sym a) b)
-      (⊎_elim (λ l. absurd (omega arith)) (λ l. first-none left (k + 1) (sym (cond-true _ _ _ b) ∙ e) j (omega arith) (omega arith)))
+      (⊎_elim (λ l. absurd (omega arith)) (λ l. first_none left (k + 1) (sym (cond-true _ _ _ b) ∙ e) j (omega arith) (omega arith)))
       (cases_order j k))
       (λ b. let s : Some k ≡ None = sym (cond-false _ _ _ b) ∙ e in absurd (grind arith))
       (cases_Bool (test k))
 
-  pub first-in : (left k j : ℕ) → first_failing test left k ≡ Some j → j < k + left
-  first-in zero k j e = absurd (grind arith)
-  first-in (suc left) k j e =
+  pub first_in : (left k j : ℕ) → first_failing test left k ≡ Some j → j < k + left
+  first_in zero k j e = absurd (grind arith)
+  first_in (suc left) k j e =
       ⊎_elim
-      (λ b. let h = first-in left (k + 1) j (sym (cond-true _ _ _ b) ∙ e) in omega arith)
+      (λ b. let h = first_in left (k + 1) j (sym (cond-true _ _ _ b) ∙ e) in omega arith)
       (λ b. let s : Some k ≡ Some j = sym (cond-false _ _ _ b) ∙ e in let h : k ≡ j = grind arith in omega arith)
       (cases_Bool (test k))
 
 -- tests that agree have the same first failure
-pub first-same : (f g : ℕ → Bool) (left k : ℕ) → ((j : ℕ) → j < k + left → f j ≡ g j) → first_failing f left k ≡ first_failing g left k
-first-same f g zero k e = refl
-first-same f g (suc left) k e = λ i. cond (e k (omega arith) i) (first-same f g left (k + 1) (λ j h. e j (omega arith)) i) (Some k)
+pub first_same : (f g : ℕ → Bool) (left k : ℕ) → ((j : ℕ) → j < k + left → f j ≡ g j) → first_failing f left k ≡ first_failing g left k
+first_same f g zero k e = refl
+first_same f g (suc left) k e = λ i. cond (e k (omega arith) i) (first_same f g left (k + 1) (λ j h. e j (omega arith)) i) (Some k)
 
 module _ (test : ℕ → ℕ → Bool) (count : ℕ → ℕ) where
   -- a pass at routine r of n, where o is the routine's first failure
-  pub place-step : (n r : ℕ) (o : Option ℕ) → r < n → o ≡ first_failing (test r) (count r) 0 → first_place test count (n - r) r ≡ or_later r o (first_place test count (n - (r + 1)) (r + 1))
-  place-step n r o lt e =
+  pub place_step : (n r : ℕ) (o : Option ℕ) → r < n → o ≡ first_failing (test r) (count r) 0 → first_place test count (n - r) r ≡ or_later r o (first_place test count (n - (r + 1)) (r + 1))
+  place_step n r o lt e =
       let s : n - r ≡ suc (n - (r + 1)) = omega arith in
       ap (λ l. first_place test count l r) s ∙ ap (λ x. or_later r x (first_place test count (n - (r + 1)) (r + 1))) (sym e)
 
-  later-none : (r : ℕ) (o : Option ℕ) (later : Option Place) → or_later r o later ≡ None → (o ≡ None) × (later ≡ None)
-  later-none r None later e = (refl, e)
-  later-none r (Some i) later e = absurd (grind arith)
+  later_none : (r : ℕ) (o : Option ℕ) (later : Option Place) → or_later r o later ≡ None → (o ≡ None) × (later ≡ None)
+  later_none r None later e = (refl, e)
+  later_none r (Some i) later e = absurd (grind arith)
 
   -- a test without a failing place holds at every place
   pub place_none : (left r : ℕ) → first_place test count left r ≡ None → (s i : ℕ) → r ≤ s → s < r + left → i < count s → test s i ≡ true
   place_none zero r e s i g h k = absurd (omega arith)
   place_none (suc left) r e s i g h k =
-      let p = later-none r (first_failing (test r) (count r) 0) (first_place test count left (r + 1)) e in
+      let p = later_none r (first_failing (test r) (count r) 0) (first_place test count left (r + 1)) e in
       ⊎_elim
-      (λ a. first-none (test s) (count s) 0 (ap (λ x. first_failing (test x) (count x) 0) a ∙ p.0) i (omega arith) (omega arith))
+      (λ a. first_none (test s) (count s) 0 (ap (λ x. first_failing (test x) (count x) 0) a ∙ p.0) i (omega arith) (omega arith))
       (⊎_elim (λ l. absurd (omega arith)) (λ l. place_none left (r + 1) p.1 s i (omega arith) (omega arith) k))
       (cases_order s r)
 

@@ -8,7 +8,7 @@ use Rattle.module.specs.declared.opened.Counts.{Counts}
 use Rattle.module.specs.Bytes.{byte, two, four}
 use Rattle.module.specs.First.{first_failing}
 use Rattle.module.specs.Layout.{routines, image_length, count, before, length_given, counts, counts_right, entry_right, provided, unless_wrong, opening}
-use Rattle.module.proofs.Firsts.{first-same}
+use Rattle.module.proofs.Firsts.{first_same}
 use Rattle.module.proofs.Opens.{laid}
 
 -- what is left of open where the length is that of no module
@@ -20,8 +20,8 @@ never None true c k = absurd (k refl refl)
 never None false c k = refl
 never (Some r) e c k = refl
 
-opening-long : (bs : List ℕ) → 37380 < length bs → opening bs ≡ long bs
-opening-long bs h =
+opening_long : (bs : List ℕ) → 37380 < length bs → opening bs ≡ long bs
+opening_long bs h =
     let some = cond-true (leb 4 (length bs)) _ _ (le-leb 4 (length bs) (omega arith)) in
     ⊎_elim
     (λ right.
@@ -37,38 +37,38 @@ opening-long bs h =
     (λ wrong. some ∙ cond-false (counts_right bs) _ _ wrong ∙ sym (cond-false (counts_right bs) _ _ wrong))
     (cases_Bool (counts_right bs))
 
-provided-same : {X : Type 0} (p q : Bool) (v : Values) (x y : Result X Values) → p ≡ q → (q ≡ true → x ≡ y) → provided p v x ≡ provided q v y
-provided-same p true v x y e f = ap (λ b. provided b v x) e ∙ f refl
-provided-same p false v x y e f = ap (λ b. provided b v x) e
+provided_same : {X : Type 0} (p q : Bool) (v : Values) (x y : Result X Values) → p ≡ q → (q ≡ true → x ≡ y) → provided p v x ≡ provided q v y
+provided_same p true v x y e f = ap (λ b. provided b v x) e ∙ f refl
+provided_same p false v x y e f = ap (λ b. provided b v x) e
 
 -- two lists that agree as far as the contents can reach
 module _ (front bs : List ℕ) (byte-same : (at : ℕ) → at < 516 → byte front at ≡ byte bs at) where
-  two-same : (at : ℕ) → at + 1 < 516 → two front at ≡ two bs at
-  two-same at h = λ i. byte-same at (omega arith) i + 256 * byte-same (at + 1) h i
+  two_same : (at : ℕ) → at + 1 < 516 → two front at ≡ two bs at
+  two_same at h = λ i. byte-same at (omega arith) i + 256 * byte-same (at + 1) h i
 
   four_same : (at : ℕ) → at + 3 < 516 → four front at ≡ four bs at
   four_same at h = λ i.
       byte-same at (omega arith) i + 256 * byte-same (at + 1) (omega arith) i + 65536 * byte-same (at + 2) (omega arith) i + 16777216 * byte-same (at + 3) h i
 
-  routines-same : routines front ≡ routines bs
-  routines-same = two-same 0 (omega arith)
+  routines_same : routines front ≡ routines bs
+  routines_same = two_same 0 (omega arith)
 
-  image-same : image_length front ≡ image_length bs
-  image-same = two-same 2 (omega arith)
+  image_same : image_length front ≡ image_length bs
+  image_same = two_same 2 (omega arith)
 
   counts_same : counts_right front ≡ counts_right bs
-  counts_same = λ i. leb 1 (routines-same i) && (leb (routines-same i) 64 && leb (image-same i) 4096)
+  counts_same = λ i. leb 1 (routines_same i) && (leb (routines_same i) 64 && leb (image_same i) 4096)
 
   count_same : (r : ℕ) → r < 64 → count front r ≡ count bs r
-  count_same r h = two-same (8 + 8 * r) (omega arith)
+  count_same r h = two_same (8 + 8 * r) (omega arith)
 
   before_same : (r : ℕ) → r ≤ 64 → before front r ≡ before bs r
   before_same zero h = refl
   before_same (suc r) h = λ i. before_same r (omega arith) i + count_same r (omega arith) i
 
-  entry-same : (r : ℕ) → r < 64 → entry_right front r ≡ entry_right bs r
-  entry-same r h = λ i.
-      eqb (four_same (4 + 8 * r) (omega arith) i) (4 + 8 * routines-same i + 8 * before_same r (omega arith) i)
+  entry_same : (r : ℕ) → r < 64 → entry_right front r ≡ entry_right bs r
+  entry_same r h = λ i.
+      eqb (four_same (4 + 8 * r) (omega arith) i) (4 + 8 * routines_same i + 8 * before_same r (omega arith) i)
       && (leb 1 (count_same r h i)
       && (leb (byte-same (10 + 8 * r) (omega arith) i) 32
       && (leb (byte-same (11 + 8 * r) (omega arith) i) 8
@@ -77,21 +77,21 @@ module _ (front bs : List ℕ) (byte-same : (at : ℕ) → at < 516 → byte fro
 
   long_same : long front ≡ long bs
   long_same =
-      provided-same (counts_right front) (counts_right bs) (author 2 0 0) _ _ counts_same (λ right.
+      provided_same (counts_right front) (counts_right bs) (author 2 0 0) _ _ counts_same (λ right.
       let few : routines bs ≤ 64 = grind (arith, nat_tests) in
       let first : first_failing (entry_right front) (routines front) 0 ≡ first_failing (entry_right bs) (routines bs) 0
-      = ap (λ n. first_failing (entry_right front) n 0) routines-same ∙ first-same (entry_right front) (entry_right bs) (routines bs) 0 (λ j h. entry-same j (omega arith)) in
+      = ap (λ n. first_failing (entry_right front) n 0) routines_same ∙ first_same (entry_right front) (entry_right bs) (routines bs) 0 (λ j h. entry_same j (omega arith)) in
       ap (λ o. unless_wrong o (Err (author 4 0 0))) first)
 
 module _ (k : ℕ) (long-enough : k ≡ 37381) (bs : List ℕ) where
-  pub front-opens : opening (take k bs) ≡ opening bs
-  front-opens =
+  pub front_opens : opening (take k bs) ≡ opening bs
+  front_opens =
       ⊎_elim
       (λ h. ap opening (take_all k bs (omega arith)))
-      (λ h. opening-long (take k bs) (omega (arith, length-take k bs))
+      (λ h. opening_long (take k bs) (omega (arith, length-take k bs))
       ∙ long_same (take k bs) bs (λ at l. get_or-take k bs at 0 (omega arith))
-      ∙ sym (opening-long bs (omega arith)))
+      ∙ sym (opening_long bs (omega arith)))
       (cases_lt (length bs) 37382)
 
-  pub opened-whole : is_ok (opening bs) ≡ true → take k bs ≡ bs
-  opened-whole h = let l = laid bs h in take_all k bs (omega (arith, l.long, l.few, l.short, l.image))
+  pub opened_whole : is_ok (opening bs) ≡ true → take k bs ≡ bs
+  opened_whole h = let l = laid bs h in take_all k bs (omega (arith, l.long, l.few, l.short, l.image))

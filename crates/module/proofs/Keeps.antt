@@ -14,8 +14,8 @@ use Rattle.module.specs.Rules.{stacks, calls, access_in, both, fits, registers, 
 use Rattle.module.specs.Shape.{shape, row_of}
 use Rattle.module.specs.Told.{bytes_of}
 use Rattle.module.specs.Verdict.{blank}
-use Rattle.module.proofs.Depths.{depth-kept}
-use Rattle.module.proofs.Lookup.{rows_long, row_at}
+use Rattle.module.proofs.Depths.{depth_kept}
+use Rattle.module.proofs.Lookup.{rows_long, row_at_lem}
 
 module _ (q : Rule) (o : Opened) (r : ℕ) (rows : List ShapeRow) (w : Within q o r rows) (i : ℕ) (lt : i < count (bytes_of o) r) (x : Instr) (e : Some x ≡ instr (bytes_of o) r i) where
   abbrev bs : List ℕ
@@ -24,34 +24,34 @@ module _ (q : Rule) (o : Opened) (r : ℕ) (rows : List ShapeRow) (w : Within q 
   abbrev here : ShapeRow
   here = get_or rows i blank
 
-  pub here-is : here ≡ row_of (shape bs r i)
-  here-is = row_at bs r rows w.filled i lt
+  pub here_is : here ≡ row_of (shape bs r i)
+  here_is = row_at_lem bs r rows w.filled i lt
 
   depth_is : here.depth ≡ length (shape bs r i)
-  depth_is = ap (λ y. y.depth) here-is
+  depth_is = ap (λ y. y.depth) here_is
 
   -- rules that stand before
-  pub calls-here : number Callee < number q → calls bs x ≡ true
-  calls-here h = ap (passes (calls bs)) e ∙ w.ready Callee h r i w.routine lt
+  pub calls_here : number Callee < number q → calls bs x ≡ true
+  calls_here h = ap (passes (calls bs)) e ∙ w.ready Callee h r i w.routine lt
 
   pub shallow : number Stack < number q → Shallow bs r
-  shallow h j l = depth-kept w.sound.laid r w.routine (w.ready Stack h) j (omega arith)
+  shallow h j l = depth_kept w.sound.laid r w.routine (w.ready Stack h) j (omega arith)
 
-  pub stack-kept : (b : Bool) → b ≡ stacks here.depth x → b ≡ holds Stack bs r i
-  stack-kept b p = p ∙ ap (λ d. stacks d x) depth_is ∙ ap (passes (stacks (length (shape bs r i)))) e
+  pub stack_kept : (b : Bool) → b ≡ stacks here.depth x → b ≡ holds Stack bs r i
+  stack_kept b p = p ∙ ap (λ d. stacks d x) depth_is ∙ ap (passes (stacks (length (shape bs r i)))) e
 
-  pub registers-kept : (b : Bool) (g : Access) → g ≡ access_in bs r x → b ≡ (both (fits here.depth) g.reads && both (fits here.depth) g.writes) → b ≡ holds Registers bs r i
-  registers-kept b g p s =
+  pub registers_kept : (b : Bool) (g : Access) → g ≡ access_in bs r x → b ≡ (both (fits here.depth) g.reads && both (fits here.depth) g.writes) → b ≡ holds Registers bs r i
+  registers_kept b g p s =
       s ∙ (λ j. both (fits (depth_is j)) (p j).reads && both (fits (depth_is j)) (p j).writes)
       ∙ ap (passes (registers bs r (length (shape bs r i)))) e
 
-  pub constants-kept : (b : Bool) (g : Access) → g ≡ access_in bs r x → b ≡ both (spares (shape bs r i)) g.writes → b ≡ holds Constants bs r i
-  constants-kept b g p s =
+  pub constants_kept : (b : Bool) (g : Access) → g ≡ access_in bs r x → b ≡ both (spares (shape bs r i)) g.writes → b ≡ holds Constants bs r i
+  constants_kept b g p s =
       s ∙ ap (λ (y : Access). both (spares (shape bs r i)) y.writes) p ∙ ap (passes (constants bs r (shape bs r i))) e
 
-  pub target-kept : (b : Bool) → b ≡ targets bs r (shape bs r i) x → b ≡ holds Target bs r i
-  target-kept b s = s ∙ ap (passes (targets bs r (shape bs r i))) e
+  pub target_kept : (b : Bool) → b ≡ targets bs r (shape bs r i) x → b ≡ holds Target bs r i
+  target_kept b s = s ∙ ap (passes (targets bs r (shape bs r i))) e
 
-  pub ending-kept : (b : Bool) → b ≡ (not (eqb (i + 1) (length rows)) || ends x) → b ≡ holds Ending bs r i
-  ending-kept b s =
+  pub ending_kept : (b : Bool) → b ≡ (not (eqb (i + 1) (length rows)) || ends x) → b ≡ holds Ending bs r i
+  ending_kept b s =
       s ∙ ap (λ n. not (eqb (i + 1) n) || ends x) (rows_long bs r rows w.filled) ∙ ap (passes (closes bs r i)) e

@@ -10,5 +10,5 @@ module _ (bs : List ℕ) (r : ℕ) (rows : List ShapeRow) (e : rows ≡ routine_
   pub rows_long : length rows ≡ count bs r
   rows_long = ap length e ∙ length-map-range_with_len (sheet_row bs r) 0 (count bs r)
 
-  pub row_at : (i : ℕ) → i < count bs r → get_or rows i blank ≡ sheet_row bs r i
-  row_at i h = ap (λ l. get_or l i blank) e ∙ get_or-map-range_with_len (sheet_row bs r) 0 (count bs r) i i blank h (omega arith)
+  pub row_at_lem : (i : ℕ) → i < count bs r → get_or rows i blank ≡ sheet_row bs r i
+  row_at_lem i h = ap (λ l. get_or l i blank) e ∙ get_or-map-range_with_len (sheet_row bs r) 0 (count bs r) i i blank h (omega arith)

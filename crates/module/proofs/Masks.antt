@@ -12,9 +12,9 @@ use Rattle.module.specs.Shape.{mask}
 abbrev bit : Bool → ℕ
 bit f = cond f 1 0
 
-bit-small : (f : Bool) → bit f < 2
-bit-small true = omega arith
-bit-small false = omega arith
+bit_small : (f : Bool) → bit f < 2
+bit_small true = omega arith
+bit_small false = omega arith
 
 pub mask-none : (n : ℕ) → mask (replicate n false) ≡ 0
 mask-none zero = refl
@@ -22,7 +22,7 @@ mask-none (suc n) = omega (arith, mask-none n)
 
 pub mask_lt : (s : List Bool) → mask s < 2 ^ length s
 mask_lt [] = omega arith
-mask_lt (f ∷ s) = omega (arith, mask_lt s, bit-small f, pow-succ' 2 (length s))
+mask_lt (f ∷ s) = omega (arith, mask_lt s, bit_small f, pow-succ' 2 (length s))
 
 pub mask-push : (s : List Bool) (f : Bool) → mask (s ++ (f ∷ [])) ≡ mask s + bit f * 2 ^ length s
 mask-push [] f = elim f as (λ g. bit g + 2 * 0 ≡ 0 + bit g * 1) [ true ↦ refl | false ↦ refl ]
@@ -39,7 +39,7 @@ halves f m p h =
     let r = m % p in
     let lt = mod_below m p h in
     let e : bit f + 2 * m ≡ q * (2 * p) + (bit f + 2 * r) = omega (arith, div-add-mod' m p, mul_left_comm q 2 p) in
-    let small : bit f + 2 * r < 2 * p = omega (arith, lt, bit-small f) in
+    let small : bit f + 2 * r < 2 * p = omega (arith, lt, bit_small f) in
     (ap (λ x. x % (2 * p)) e ∙ digits_mod q small, ap (λ x. x / (2 * p)) e ∙ digits_div q small)
 
 pub mask-take : (k : ℕ) (s : List Bool) → mask (take k s) ≡ mask s % 2 ^ k

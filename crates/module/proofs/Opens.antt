@@ -8,15 +8,15 @@ use Rattle.module.specs.First.{first_failing}
 use Rattle.module.specs.Laid.{Laid}
 use Rattle.module.specs.Layout.{routines, image_length, offset, count, arguments, results, before, length_given, counts, counts_right, entry_right, provided, unless_wrong, opening}
 use Rattle.module.specs.Told.{Sound, bytes_of}
-use Rattle.module.proofs.Firsts.{first-none, sum_mono}
+use Rattle.module.proofs.Firsts.{first_none, sum_mono}
 
 provided-ok : {X : Type 0} (b : Bool) (v : Values) (rest : Result X Values) → is_ok (provided b v rest) ≡ true → (b ≡ true) × (is_ok rest ≡ true)
 provided-ok true v rest h = (refl, h)
 provided-ok false v rest h = absurd (false≢true h)
 
-entries-ok : {X : Type 0} (o : Option ℕ) (rest : Result X Values) → is_ok (unless_wrong o rest) ≡ true → (o ≡ None) × (is_ok rest ≡ true)
-entries-ok None rest h = (refl, h)
-entries-ok (Some r) rest h = absurd (false≢true h)
+entries_ok : {X : Type 0} (o : Option ℕ) (rest : Result X Values) → is_ok (unless_wrong o rest) ≡ true → (o ≡ None) × (is_ok rest ≡ true)
+entries_ok None rest h = (refl, h)
+entries_ok (Some r) rest h = absurd (false≢true h)
 
 record Right (bs : List ℕ) (r : ℕ) : Type 0 where
   placed : offset bs r ≡ 4 + 8 * routines bs + 8 * before bs r
@@ -47,7 +47,7 @@ tests bs h =
     let a = provided-ok (leb 4 (length bs)) _ _ h in
     let b = provided-ok (counts_right bs) _ _ a.1 in
     let c = provided-ok (leb (4 + 8 * routines bs) (length bs)) _ _ b.1 in
-    let d = entries-ok (first_failing (entry_right bs) (routines bs) 0) _ c.1 in
+    let d = entries_ok (first_failing (entry_right bs) (routines bs) 0) _ c.1 in
     let e = provided-ok (eqb (length bs) (length_given bs)) _ _ d.1 in
     record { counted = b.0; entered = d.0; long = e.0 }
 
@@ -59,7 +59,7 @@ laid bs h =
     let some : 1 ≤ n = grind (arith, nat_tests) in
     let few : n ≤ 64 = grind (arith, nat_tests) in
     let image : image_length bs ≤ 4096 = grind (arith, nat_tests) in
-    let each : (r : ℕ) → r < n → Right bs r = λ r lt. right bs r (first-none (entry_right bs) n 0 t.entered r (omega arith) (omega arith)) in
+    let each : (r : ℕ) → r < n → Right bs r = λ r lt. right bs r (first_none (entry_right bs) n 0 t.entered r (omega arith) (omega arith)) in
     let last : suc (n - 1) ≡ n = omega arith in
     let most = (each (n - 1) (omega arith)).short in
     record {
@@ -86,14 +86,14 @@ sound o bs shows verdict same = record {
 }
 
 -- n routines and an image of d bytes are out of range: there is no routine, there are more than 64, or the image is too long
-counts-out : (bs : List ℕ) (n d : ℕ) → n ≡ routines bs → d ≡ image_length bs →
+counts_out : (bs : List ℕ) (n d : ℕ) → n ≡ routines bs → d ≡ image_length bs →
     (n < 1) ⊎ ((1 ≤ n) × (64 < n)) ⊎ ((1 ≤ n) × (n ≤ 64) × (4096 < d)) → counts_right bs ≡ false
-counts-out bs n d en ed (inl h) = and_left _ _ (lt-leb 1 (routines bs) (omega arith))
-counts-out bs n d en ed (inr (inl h)) = and_right _ _ (and_left _ _ (lt-leb (routines bs) 64 (omega arith)))
-counts-out bs n d en ed (inr (inr h)) = and_right _ _ (and_right _ _ (lt-leb (image_length bs) 4096 (omega arith)))
+counts_out bs n d en ed (inl h) = and_left _ _ (lt-leb 1 (routines bs) (omega arith))
+counts_out bs n d en ed (inr (inl h)) = and_right _ _ (and_left _ _ (lt-leb (routines bs) 64 (omega arith)))
+counts_out bs n d en ed (inr (inr h)) = and_right _ _ (and_right _ _ (lt-leb (image_length bs) 4096 (omega arith)))
 
 -- what open answers then
-pub counts-refused : (bs : List ℕ) (n d : ℕ) → n ≡ routines bs → d ≡ image_length bs → 4 ≤ length bs →
+pub counts_refused : (bs : List ℕ) (n d : ℕ) → n ≡ routines bs → d ≡ image_length bs → 4 ≤ length bs →
     (n < 1) ⊎ ((1 ≤ n) × (64 < n)) ⊎ ((1 ≤ n) × (n ≤ 64) × (4096 < d)) → Err (author 2 0 0) ≡ opening bs
-counts-refused bs n d en ed long out =
-    sym (cond-true (leb 4 (length bs)) _ _ (le-leb 4 (length bs) long) ∙ cond-false (counts_right bs) _ _ (counts-out bs n d en ed out))
+counts_refused bs n d en ed long out =
+    sym (cond-true (leb 4 (length bs)) _ _ (le-leb 4 (length bs) long) ∙ cond-false (counts_right bs) _ _ (counts_out bs n d en ed out))

@@ -29,8 +29,8 @@ module _ (s : List Bool) (f : Bool) where
   mask_low : length s < 32 → mask (take 32 (s ++ (f ∷ []))) ≡ mask s + cond f 1 0 * 2 ^ length s
   mask_low h = ap mask (take_all 32 (s ++ (f ∷ [])) (omega (arith, length_push s f))) ∙ mask-push s f
 
-  mask-high : 32 ≤ length s → mask (take 32 (s ++ (f ∷ []))) ≡ mask (take 32 s)
-  mask-high h = ap mask (take-append-le 32 s (f ∷ []) h)
+  mask_high : 32 ≤ length s → mask (take 32 (s ++ (f ∷ []))) ≡ mask (take 32 s)
+  mask_high h = ap mask (take-append-le 32 s (f ∷ []) h)
 
 short : (s : List Bool) → length s < 32 → mask (take 32 s) ≡ mask s
 short s h = ap mask (take_all 32 s (omega arith))
@@ -42,24 +42,24 @@ module _ (x : ShapeRow) (s : List Bool) (e : x ≡ row_of s) where
   mask_is : x.mask ≡ mask (take 32 s)
   mask_is = ap (λ y. y.mask) e
 
-  pub variable-added : shape_row (x.depth + 1) x.mask ≡ row_of (s ++ (false ∷ []))
-  variable-added =
+  pub variable_added : shape_row (x.depth + 1) x.mask ≡ row_of (s ++ (false ∷ []))
+  variable_added =
       row_is _ _ _ (deeper s false x.depth depth_is)
       (⊎_elim
       (λ h. mask_is ∙ short s h ∙ sym (mask_low s false h ∙ omega arith))
-      (λ h. mask_is ∙ sym (mask-high s false h))
+      (λ h. mask_is ∙ sym (mask_high s false h))
       (cases_lt (length s) 32))
 
-  pub constant-added : x.depth < 32 → shape_row (x.depth + 1) (bit_or x.mask ((1 * 2 ^ x.depth) % 2 ^ 32)) ≡ row_of (s ++ (true ∷ []))
-  constant-added h =
+  pub constant_added : x.depth < 32 → shape_row (x.depth + 1) (bit_or x.mask ((1 * 2 ^ x.depth) % 2 ^ 32)) ≡ row_of (s ++ (true ∷ []))
+  constant_added h =
       let lt : length s < 32 = omega (arith, depth_is) in
       let one : (1 * 2 ^ x.depth) % 2 ^ 32 ≡ 1 * 2 ^ length s = one_shl x.depth 32 h ∙ ap (λ d. 2 ^ d) depth_is ∙ omega arith in
       let same = mask_is ∙ short s lt in
       row_is _ _ _ (deeper s true x.depth depth_is)
       ((λ i. bit_or (same i) (one i)) ∙ or_comm (mask s) (1 * 2 ^ length s) ∙ or_shifted 1 (length s) (mask s) (mask_lt s) ∙ omega (arith, mask_low s true lt))
 
-  pub constant-past : 32 ≤ x.depth → shape_row (x.depth + 1) x.mask ≡ row_of (s ++ (true ∷ []))
-  constant-past h = row_is _ _ _ (deeper s true x.depth depth_is) (mask_is ∙ sym (mask-high s true (omega (arith, depth_is))))
+  pub constant_past : 32 ≤ x.depth → shape_row (x.depth + 1) x.mask ≡ row_of (s ++ (true ∷ []))
+  constant_past h = row_is _ _ _ (deeper s true x.depth depth_is) (mask_is ∙ sym (mask_high s true (omega (arith, depth_is))))
 
   module _ (d : ℕ) (p : d ≡ x.depth - 1) where
     lower : d ≡ length s - 1
@@ -68,13 +68,13 @@ module _ (x : ShapeRow) (s : List Bool) (e : x ≡ row_of s) where
     left : d ≡ length (take (length s - 1) s)
     left = omega (arith, lower, length-take (length s - 1) s)
 
-    pub top-removed : d < 32 → shape_row d (x.mask % ((1 * 2 ^ d) % 2 ^ 32)) ≡ row_of (take (length s - 1) s)
-    top-removed h =
+    pub top_removed : d < 32 → shape_row d (x.mask % ((1 * 2 ^ d) % 2 ^ 32)) ≡ row_of (take (length s - 1) s)
+    top_removed h =
         let k = length s - 1 in
         let one : (1 * 2 ^ d) % 2 ^ 32 ≡ 2 ^ k = one_shl d 32 h ∙ ap (λ y. 2 ^ y) lower in
         let few : length (take k s) ≤ 32 = omega (arith, left, h) in
         row_is _ _ _ left
         ((λ i. mask_is i % one i) ∙ sym (mask-take k (take 32 s)) ∙ ap mask (take-take k 32 s (omega (arith, lower, h))) ∙ sym (ap mask (take_all 32 (take k s) few)))
 
-    pub top-past : 32 ≤ d → shape_row d x.mask ≡ row_of (take (length s - 1) s)
-    top-past h = row_is _ _ _ left (mask_is ∙ sym (ap mask (take-take 32 (length s - 1) s (omega (arith, lower, h)))))
+    pub top_past : 32 ≤ d → shape_row d x.mask ≡ row_of (take (length s - 1) s)
+    top_past h = row_is _ _ _ left (mask_is ∙ sym (ap mask (take-take 32 (length s - 1) s (omega (arith, lower, h)))))

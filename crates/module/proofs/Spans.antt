@@ -38,28 +38,28 @@ spared x s first len m f l e h p q r =
     ap (λ x. eqb x 0) ((λ i. above i % one i) ∙ sym (mask-take (min len 32) (drop first s)) ∙ ap mask (take_min len (drop first s) few))
     ∙ mask-zero (take len (drop first s))
 
-one-one : (a b m n : ℕ) → (eqb (suc a) (suc b) && eqb (1 + 2 * m) (1 + 2 * n)) ≡ (eqb a b && eqb m n)
-one-one a b m n = grind (arith, nat_tests)
+one_one : (a b m n : ℕ) → (eqb (suc a) (suc b) && eqb (1 + 2 * m) (1 + 2 * n)) ≡ (eqb a b && eqb m n)
+one_one a b m n = grind (arith, nat_tests)
 
-none-none : (a b m n : ℕ) → (eqb (suc a) (suc b) && eqb (0 + 2 * m) (0 + 2 * n)) ≡ (eqb a b && eqb m n)
-none-none a b m n = grind (arith, nat_tests)
+none_none : (a b m n : ℕ) → (eqb (suc a) (suc b) && eqb (0 + 2 * m) (0 + 2 * n)) ≡ (eqb a b && eqb m n)
+none_none a b m n = grind (arith, nat_tests)
 
 one_none : (a b m n : ℕ) → (eqb (suc a) (suc b) && eqb (1 + 2 * m) (0 + 2 * n)) ≡ false
 one_none a b m n = grind (arith, nat_tests)
 
-none-one : (a b m n : ℕ) → (eqb (suc a) (suc b) && eqb (0 + 2 * m) (1 + 2 * n)) ≡ false
-none-one a b m n = grind (arith, nat_tests)
+none_one : (a b m n : ℕ) → (eqb (suc a) (suc b) && eqb (0 + 2 * m) (1 + 2 * n)) ≡ false
+none_one a b m n = grind (arith, nat_tests)
 
-same-masks : (s t : List Bool) → (eqb (length s) (length t) && eqb (mask s) (mask t)) ≡ same_shape s t
-same-masks [] [] = refl
-same-masks [] (g ∷ t) = and_left _ _ (ne_eqb 0 (suc (length t)) (λ e. omega arith))
-same-masks (f ∷ s) [] = and_left _ _ (ne_eqb (suc (length s)) 0 (λ e. omega arith))
-same-masks (true ∷ s) (true ∷ t) = one-one (length s) (length t) (mask s) (mask t) ∙ same-masks s t
-same-masks (true ∷ s) (false ∷ t) = one_none (length s) (length t) (mask s) (mask t)
-same-masks (false ∷ s) (true ∷ t) = none-one (length s) (length t) (mask s) (mask t)
-same-masks (false ∷ s) (false ∷ t) = none-none (length s) (length t) (mask s) (mask t) ∙ same-masks s t
+same_masks : (s t : List Bool) → (eqb (length s) (length t) && eqb (mask s) (mask t)) ≡ same_shape s t
+same_masks [] [] = refl
+same_masks [] (g ∷ t) = and_left _ _ (ne_eqb 0 (suc (length t)) (λ e. omega arith))
+same_masks (f ∷ s) [] = and_left _ _ (ne_eqb (suc (length s)) 0 (λ e. omega arith))
+same_masks (true ∷ s) (true ∷ t) = one_one (length s) (length t) (mask s) (mask t) ∙ same_masks s t
+same_masks (true ∷ s) (false ∷ t) = one_none (length s) (length t) (mask s) (mask t)
+same_masks (false ∷ s) (true ∷ t) = none_one (length s) (length t) (mask s) (mask t)
+same_masks (false ∷ s) (false ∷ t) = none_none (length s) (length t) (mask s) (mask t) ∙ same_masks s t
 
 pub same_rows : (x y : ShapeRow) (s t : List Bool) → x ≡ row_of s → y ≡ row_of t → length s ≤ 32 → length t ≤ 32
     → (eqb x.depth y.depth && eqb x.mask y.mask) ≡ same_shape s t
 same_rows x y s t p q h k =
-    (λ i. eqb (p i).depth (q i).depth && eqb (whole x s p h i) (whole y t q k i)) ∙ same-masks s t
+    (λ i. eqb (p i).depth (q i).depth && eqb (whole x s p h i) (whole y t q k i)) ∙ same_masks s t

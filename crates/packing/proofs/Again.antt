@@ -11,70 +11,70 @@ use Rattle.module.specs.Layout as layout
 use Rattle.module.specs.Unpack.{entries, rows, image}
 use Rattle.packing.specs.Pack.{counts_right, entry_right, formed, malformed, unless_malformed, size, packing, output_after}
 use Rattle.packing.specs.Packed.{entry_at, row_at, before, total}
-use Rattle.packing.proofs.Repack.{entries-long, rows_long, image-long, entry-is, row_is, before-is, repacked}
-use Rattle.packing.proofs.Shown.{first-all}
+use Rattle.packing.proofs.Repack.{entries_long, rows_long, image_long, entry_is, row_is, before_is, repacked}
+use Rattle.packing.proofs.Shown.{first_all}
 
-place-all : (test : ℕ → ℕ → Bool) (count : ℕ → ℕ) (left r : ℕ) → ((s i : ℕ) → s < r + left → i < count s → test s i ≡ true) → first_place test count left r ≡ None
-place-all test count zero r e = refl
-place-all test count (suc left) r e =
-    ap (λ o. or_later r o (first_place test count left (r + 1))) (first-all (test r) (count r) 0 (λ j h. e r j (omega arith) (omega arith)))
-    ∙ place-all test count left (r + 1) (λ s i h g. e s i (omega arith) g)
+place_all : (test : ℕ → ℕ → Bool) (count : ℕ → ℕ) (left r : ℕ) → ((s i : ℕ) → s < r + left → i < count s → test s i ≡ true) → first_place test count left r ≡ None
+place_all test count zero r e = refl
+place_all test count (suc left) r e =
+    ap (λ o. or_later r o (first_place test count left (r + 1))) (first_all (test r) (count r) 0 (λ j h. e r j (omega arith) (omega arith)))
+    ∙ place_all test count left (r + 1) (λ s i h g. e s i (omega arith) g)
 
 module _ (bs : List ℕ) (small : Octets bs) (ok : Laid bs) (kept : KeptEverywhere bs) where
-  counts-right : counts_right (entries bs) (image bs) ≡ true
-  counts-right =
-      let n = entries-long bs small ok in
+  counts_right_lem : counts_right (entries bs) (image bs) ≡ true
+  counts_right_lem =
+      let n = entries_long bs small ok in
       let some : 1 ≤ length (entries bs) = omega (arith, n, ok.some) in
       let few : length (entries bs) ≤ 64 = omega (arith, n, ok.few) in
-      let short : length (image bs) ≤ 4096 = omega (arith, image-long bs small ok, ok.image) in
+      let short : length (image bs) ≤ 4096 = omega (arith, image_long bs small ok, ok.image) in
       and_from _ _ (le-leb 1 _ some) (and_from _ _ (le-leb _ 64 few) (le-leb _ 4096 short))
 
-  main-right : (r : ℕ) → (not (eqb r 0) || (eqb (layout.arguments bs r) 0 && eqb (layout.results bs r) 0)) ≡ true
-  main-right r =
+  main_right : (r : ℕ) → (not (eqb r 0) || (eqb (layout.arguments bs r) 0 && eqb (layout.results bs r) 0)) ≡ true
+  main_right r =
       ⊎_elim
       (λ e. or_right _ _ (subst (λ x. (eqb (layout.arguments bs x) 0 && eqb (layout.results bs x) 0) ≡ true) (sym e) (and_from _ _ (eq-eqb _ 0 ok.main.0) (eq-eqb _ 0 ok.main.1))))
       (λ e. or_left _ _ (not_from_false _ (ne_eqb r 0 e)))
       (cases_eq r 0)
 
-  entry-right : (r : ℕ) → r < layout.routines bs → entry_right (entries bs) r ≡ true
-  entry-right r h =
+  entry_right_lem : (r : ℕ) → r < layout.routines bs → entry_right (entries bs) r ≡ true
+  entry_right_lem r h =
       let e = ok.entry r h in
-      let x = entry-is bs small ok r h in
-      let b = before-is bs small ok r (omega arith) in
+      let x = entry_is bs small ok r h in
+      let b = before_is bs small ok r (omega arith) in
       let most : layout.before bs r + layout.count bs r ≤ 4096 = omega (arith, e.inside, ok.short) in
       (λ i. leb 1 (x i).count && (leb (x i).arguments 32 && (leb (x i).results 8 && ((not (eqb r 0) || (eqb (x i).arguments 0 && eqb (x i).results 0)) && leb (b i + (x i).count) 4096))))
-      ∙ and_from _ _ (le-leb 1 _ e.full) (and_from _ _ (le-leb _ 32 e.takes) (and_from _ _ (le-leb _ 8 e.gives) (and_from _ _ (main-right r) (le-leb _ 4096 most))))
+      ∙ and_from _ _ (le-leb 1 _ e.full) (and_from _ _ (le-leb _ 32 e.takes) (and_from _ _ (le-leb _ 8 e.gives) (and_from _ _ (main_right r) (le-leb _ 4096 most))))
 
-  none-wrong : first_failing (entry_right (entries bs)) (length (entries bs)) 0 ≡ None
-  none-wrong = first-all (entry_right (entries bs)) (length (entries bs)) 0 (λ j h. entry-right j (omega (arith, entries-long bs small ok)))
+  none_wrong : first_failing (entry_right (entries bs)) (length (entries bs)) 0 ≡ None
+  none_wrong = first_all (entry_right (entries bs)) (length (entries bs)) 0 (λ j h. entry_right_lem j (omega (arith, entries_long bs small ok)))
 
-  total-is : total (entries bs) ≡ layout.total bs
-  total-is = ap (before (entries bs)) (entries-long bs small ok) ∙ before-is bs small ok (layout.routines bs) (omega arith)
+  total_is : total (entries bs) ≡ layout.total bs
+  total_is = ap (before (entries bs)) (entries_long bs small ok) ∙ before_is bs small ok (layout.routines bs) (omega arith)
 
-  row-formed : (r i : ℕ) → r < layout.routines bs → i < (entry_at (entries bs) r).count → formed (entries bs) (rows bs) r i ≡ true
-  row-formed r i h g =
+  row_formed : (r i : ℕ) → r < layout.routines bs → i < (entry_at (entries bs) r).count → formed (entries bs) (rows bs) r i ≡ true
+  row_formed r i h g =
       let e = ok.entry r h in
-      let li : i < layout.count bs r = omega (arith, ap (λ x. x.count) (entry-is bs small ok r h)) in
+      let li : i < layout.count bs r = omega (arith, ap (λ x. x.count) (entry_is bs small ok r h)) in
       let k = layout.before bs r + i in
       let at : 4 + 8 * layout.routines bs + 8 * k ≡ layout.offset bs r + 8 * i = omega (arith, e.placed) in
       let f = kept r i h li in
-      ap (λ x. well_formed (row_at (rows bs) (x + i))) (before-is bs small ok r (omega arith))
+      ap (λ x. well_formed (row_at (rows bs) (x + i))) (before_is bs small ok r (omega arith))
       ∙ ap well_formed (row_is bs small ok k (omega (arith, li, e.inside)) ∙ ap (layout.row_from bs) at)
       ∙ f.2.formed
 
-  none-malformed : malformed (entries bs) (rows bs) ≡ None
-  none-malformed = place-all (formed (entries bs) (rows bs)) (λ r. (entry_at (entries bs) r).count) (length (entries bs)) 0 (λ s i h g. row-formed s i (omega (arith, entries-long bs small ok)) g)
+  none_malformed : malformed (entries bs) (rows bs) ≡ None
+  none_malformed = place_all (formed (entries bs) (rows bs)) (λ r. (entry_at (entries bs) r).count) (length (entries bs)) 0 (λ s i h g. row_formed s i (omega (arith, entries_long bs small ok)) g)
 
   size_is : size (entries bs) (image bs) ≡ length bs
-  size_is = (λ i. 4 + 8 * entries-long bs small ok i + 8 * total-is i + image-long bs small ok i) ∙ sym ok.long
+  size_is = (λ i. 4 + 8 * entries_long bs small ok i + 8 * total_is i + image_long bs small ok i) ∙ sym ok.long
 
-  pub packing-is : (room : ℕ) → packing (entries bs) (rows bs) (image bs) room ≡ layout.provided (leb (length bs) room) (caller 13) (Ok (length bs))
-  packing-is room =
-      let sum : eqb (length (rows bs)) (total (entries bs)) ≡ true = eq-eqb _ _ (rows_long bs small ok ∙ sym total-is) in
-      λ i. layout.provided (counts-right i) (author 2 0 0)
-      (layout.unless_wrong (none-wrong i)
+  pub packing_is : (room : ℕ) → packing (entries bs) (rows bs) (image bs) room ≡ layout.provided (leb (length bs) room) (caller 13) (Ok (length bs))
+  packing_is room =
+      let sum : eqb (length (rows bs)) (total (entries bs)) ≡ true = eq-eqb _ _ (rows_long bs small ok ∙ sym total_is) in
+      λ i. layout.provided (counts_right_lem i) (author 2 0 0)
+      (layout.unless_wrong (none_wrong i)
       (layout.provided (sum i) (author 3 (length (entries bs) - 1) 0)
-      (unless_malformed (none-malformed i)
+      (unless_malformed (none_malformed i)
       (layout.provided (leb (size_is i) room) (caller 13)
       (Ok (size_is i))))))
 
@@ -82,7 +82,7 @@ module _ (bs : List ℕ) (small : Octets bs) (ok : Laid bs) (kept : KeptEverywhe
   choice true v x = refl
   choice false v x = refl
 
-  pub output-is : (out : List ℕ) → output_after (entries bs) (rows bs) (image bs) out ≡ cond (leb (length bs) (length out)) (bs ++ drop (length bs) out) out
-  output-is out =
-      let tests = ap is_ok (packing-is (length out)) ∙ choice (leb (length bs) (length out)) (caller 13) (length bs) in
+  pub output_is : (out : List ℕ) → output_after (entries bs) (rows bs) (image bs) out ≡ cond (leb (length bs) (length out)) (bs ++ drop (length bs) out) out
+  output_is out =
+      let tests = ap is_ok (packing_is (length out)) ∙ choice (leb (length bs) (length out)) (caller 13) (length bs) in
       λ i. cond (tests i) (repacked bs small ok i ++ drop (size_is i) out) out

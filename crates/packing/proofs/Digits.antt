@@ -13,14 +13,14 @@ over : (x q m r : ℕ) → x ≡ q * m + r → r < m → x / m ≡ q
 over x q m r e h = ap (λ y. y / m) e ∙ digits_div q h
 
 -- bytes to a number and back
-pub low2-is : (a b : ℕ) → a < 256 → b < 256 → low2 (a + 256 * b) ≡ a ∷ b ∷ []
-low2-is a b p q =
+pub low2_is : (a b : ℕ) → a < 256 → b < 256 → low2 (a + 256 * b) ≡ a ∷ b ∷ []
+low2_is a b p q =
     let x = modulo (a + 256 * b) b 256 a (omega arith) p in
     let y = ap (λ z. z % 256) (over (a + 256 * b) b 256 a (omega arith) p) ∙ mod-eq_of_lt q in
     λ i. x i ∷ y i ∷ []
 
-pub low4-is : (a b c d : ℕ) → a < 256 → b < 256 → c < 256 → d < 256 → low4 (a + 256 * b + 65536 * c + 16777216 * d) ≡ a ∷ b ∷ c ∷ d ∷ []
-low4-is a b c d p q r s =
+pub low4_is : (a b c d : ℕ) → a < 256 → b < 256 → c < 256 → d < 256 → low4 (a + 256 * b + 65536 * c + 16777216 * d) ≡ a ∷ b ∷ c ∷ d ∷ []
+low4_is a b c d p q r s =
     let n = a + 256 * b + 65536 * c + 16777216 * d in
     let w = modulo n (b + 256 * c + 65536 * d) 256 a (omega arith) p in
     let x = ap (λ z. z % 256) (over n (b + 256 * c + 65536 * d) 256 a (omega arith) p) ∙ modulo (b + 256 * c + 65536 * d) (c + 256 * d) 256 b (omega arith) q in
@@ -34,8 +34,8 @@ two_back x h =
     let small : x / 256 % 256 ≡ x / 256 = mod-eq_of_lt (div_below x 256 256 (omega arith) (omega arith)) in
     omega (arith, div-add-mod' x 256, small)
 
-pub four-back : (x : ℕ) → x < 4294967296 → x % 256 + 256 * (x / 256 % 256) + 65536 * (x / 65536 % 256) + 16777216 * (x / 16777216 % 256) ≡ x
-four-back x h =
+pub four_back : (x : ℕ) → x < 4294967296 → x % 256 + 256 * (x / 256 % 256) + 65536 * (x / 65536 % 256) + 16777216 * (x / 16777216 % 256) ≡ x
+four_back x h =
     let y = x / 256 in
     let z = y / 256 in
     let w = z / 256 in

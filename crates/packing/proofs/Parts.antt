@@ -6,7 +6,7 @@ use Rattle.isa.specs.declared.row.Row.{Row}
 use Rattle.isa.specs.Form.{well_formed}
 use Rattle.module.specs.declared.entry.Entry.{Entry}
 use Rattle.module.specs.First.{first_failing}
-use Rattle.module.proofs.Firsts.{first-same}
+use Rattle.module.proofs.Firsts.{first_same}
 use Rattle.packing.specs.Pack.{formed}
 use Rattle.packing.specs.Packed.{entry_at, row_at, before, no_row}
 
@@ -17,7 +17,7 @@ part_same es rs r start n p q room =
     let long : length part ≡ (entry_at es r).count = omega (arith, length-take n (drop start rs), length-drop start rs, q) in
     let same : (k : ℕ) → k < 0 + (entry_at es r).count → well_formed (row_at part k) ≡ formed es rs r k
     = λ k h. ap well_formed (get_or-take n (drop start rs) k no_row (omega arith) ∙ get_or-drop start rs k no_row ∙ ap (λ x. row_at rs (x + k)) p) in
-    ap (λ m. first_failing (λ k. well_formed (row_at part k)) m 0) long ∙ first-same _ _ (entry_at es r).count 0 same
+    ap (λ m. first_failing (λ k. well_formed (row_at part k)) m 0) long ∙ first_same _ _ (entry_at es r).count 0 same
 
 -- words of the rows so far, and of a part after them
 pub words_more : (rs : List Row) (start n m : ℕ) → m ≡ n → ((k : ℕ) → k < start → (row_at rs k).n < 2 ^ 32) → ((k : ℕ) → k < length (take m (drop start rs)) → (row_at (take m (drop start rs)) k).n < 2 ^ 32)

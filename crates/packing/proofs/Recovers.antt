@@ -17,17 +17,17 @@ use Rattle.packing.specs.Packed.{packed}
 use Rattle.packing.specs.Shows.{Shows, if_ok, recovering, sheet_then, returned}
 
 -- what an accepting test leaves
-provided-value : {X : Type 0} (b : Bool) (v : Values) (rest : Result X Values) (x : X) → Ok x ≡ provided b v rest → Ok x ≡ rest
-provided-value true v rest x e = e
-provided-value false v rest x e = absurd (grind arith)
+provided_value : {X : Type 0} (b : Bool) (v : Values) (rest : Result X Values) (x : X) → Ok x ≡ provided b v rest → Ok x ≡ rest
+provided_value true v rest x e = e
+provided_value false v rest x e = absurd (grind arith)
 
-wrong-value : {X : Type 0} (o : Option ℕ) (rest : Result X Values) (x : X) → Ok x ≡ unless_wrong o rest → Ok x ≡ rest
-wrong-value None rest x e = e
-wrong-value (Some r) rest x e = absurd (grind arith)
+wrong_value : {X : Type 0} (o : Option ℕ) (rest : Result X Values) (x : X) → Ok x ≡ unless_wrong o rest → Ok x ≡ rest
+wrong_value None rest x e = e
+wrong_value (Some r) rest x e = absurd (grind arith)
 
-malformed-value : {X : Type 0} (o : Option Place) (rest : Result X Values) (x : X) → Ok x ≡ unless_malformed o rest → Ok x ≡ rest
-malformed-value None rest x e = e
-malformed-value (Some p) rest x e = absurd (grind arith)
+malformed_value : {X : Type 0} (o : Option Place) (rest : Result X Values) (x : X) → Ok x ≡ unless_malformed o rest → Ok x ≡ rest
+malformed_value None rest x e = e
+malformed_value (Some p) rest x e = absurd (grind arith)
 
 choice : {X : Type 0} (b : Bool) (v : Values) (x : X) → is_ok (provided b v (Ok x)) ≡ b
 choice true v x = refl
@@ -39,11 +39,11 @@ module _ (es : List Entry) (rs : List Row) (im : List ℕ) (room n : ℕ) (v : O
 
   size_is : n ≡ size es im
   size_is =
-      let a = provided-value (counts_right es im) _ _ n v in
-      let b = wrong-value (first_failing (entry_right es) (length es) 0) _ n a in
-      let c = provided-value (eqb (length rs) (parts.total es)) _ _ n b in
-      let d = malformed-value (malformed es rs) _ n c in
-      let e : Ok n ≡ Ok (size es im) = provided-value (leb (size es im) room) _ _ n d in
+      let a = provided_value (counts_right es im) _ _ n v in
+      let b = wrong_value (first_failing (entry_right es) (length es) 0) _ n a in
+      let c = provided_value (eqb (length rs) (parts.total es)) _ _ n b in
+      let d = malformed_value (malformed es rs) _ n c in
+      let e : Ok n ≡ Ok (size es im) = provided_value (leb (size es im) room) _ _ n d in
       grind arith
 
   pub written : (out out' : List ℕ) (k : ℕ) → length out ≡ room → out' ≡ output_after es rs im out → k ≡ n → take k out' ≡ p
@@ -51,38 +51,38 @@ module _ (es : List Entry) (rs : List Row) (im : List ℕ) (room n : ℕ) (v : O
       let ok : is_ok (packing es rs im (length out)) ≡ true = ap (λ m. is_ok (packing es rs im m)) long ∙ ap is_ok (sym v) in
       (λ i. take ((q ∙ size_is) i) ((e ∙ ap (λ b. cond b (p ++ drop (size es im) out) out) ok) i)) ∙ take_at p (drop (size es im) out) (size es im) shows.long
 
-  routines-is : routines p ≡ length es
-  routines-is = sym (length-map-range_with_len (entry_of p) 0 (routines p)) ∙ ap length shows.contents
+  routines_is : routines p ≡ length es
+  routines_is = sym (length-map-range_with_len (entry_of p) 0 (routines p)) ∙ ap length shows.contents
 
-  total-is : total p ≡ length rs
-  total-is = sym (length-map-range_with_len (body_row p) 0 (total p)) ∙ ap length shows.bodies
+  total_is : total p ≡ length rs
+  total_is = sym (length-map-range_with_len (body_row p) 0 (total p)) ∙ ap length shows.bodies
 
-  pub refused-by-check : (e : Values) (sheet bes brs : ℕ) → Err e ≡ checking p sheet → Err e ≡ recovering es rs im room sheet bes brs
-  refused-by-check e sheet bes brs h =
+  pub refused_by_check : (e : Values) (sheet bes brs : ℕ) → Err e ≡ checking p sheet → Err e ≡ recovering es rs im room sheet bes brs
+  refused_by_check e sheet bes brs h =
       λ i. if_ok (v i) (if_ok (h i) (provided (leb (length es) bes && leb (length rs) brs) (caller 13) (Ok (length es, length rs))))
 
-  pub sheet-then : (bs : List ℕ) (sheet sheet' : List ShapeRow) → bs ≡ p → sheet' ≡ sheet_after bs sheet → sheet' ≡ sheet_then es rs im room sheet
-  sheet-then bs sheet sheet' q e = e ∙ ap (λ b. sheet_after b sheet) q ∙ (λ i. cond (is_ok (v i)) (sheet_after p sheet) sheet)
+  pub sheet_then_lem : (bs : List ℕ) (sheet sheet' : List ShapeRow) → bs ≡ p → sheet' ≡ sheet_after bs sheet → sheet' ≡ sheet_then es rs im room sheet
+  sheet_then_lem bs sheet sheet' q e = e ∙ ap (λ b. sheet_after b sheet) q ∙ (λ i. cond (is_ok (v i)) (sheet_after p sheet) sheet)
 
-  pub recovered-verdict : (sheet bes brs : ℕ) (bs : List ℕ) → bs ≡ p → Ok tt ≡ checking p sheet → unpacking bs bes brs ≡ recovering es rs im room sheet bes brs
-  recovered-verdict sheet bes brs bs q h =
+  pub recovered_verdict : (sheet bes brs : ℕ) (bs : List ℕ) → bs ≡ p → Ok tt ≡ checking p sheet → unpacking bs bes brs ≡ recovering es rs im room sheet bes brs
+  recovered_verdict sheet bes brs bs q h =
       ap (λ b. unpacking b bes brs) q
-      ∙ (λ i. provided (leb (routines-is i) bes && leb (total-is i) brs) (caller 13) (Ok (routines-is i, total-is i)))
+      ∙ (λ i. provided (leb (routines_is i) bes && leb (total_is i) brs) (caller 13) (Ok (routines_is i, total_is i)))
       ∙ (λ i. if_ok (v i) (if_ok (h i) (provided (leb (length es) bes && leb (length rs) brs) (caller 13) (Ok (length es, length rs)))))
 
-  roomy-is : (bes brs : ℕ) (r : Result (ℕ × ℕ) Values) (bs : List ℕ) → bs ≡ p → r ≡ unpacking bs bes brs → roomy p bes brs ≡ is_ok r
-  roomy-is bes brs r bs q e = sym (ap is_ok (e ∙ ap (λ b. unpacking b bes brs) q) ∙ choice (roomy p bes brs) (caller 13) (routines p, total p))
+  roomy_is : (bes brs : ℕ) (r : Result (ℕ × ℕ) Values) (bs : List ℕ) → bs ≡ p → r ≡ unpacking bs bes brs → roomy p bes brs ≡ is_ok r
+  roomy_is bes brs r bs q e = sym (ap is_ok (e ∙ ap (λ b. unpacking b bes brs) q) ∙ choice (roomy p bes brs) (caller 13) (routines p, total p))
 
   module _ (bes : List Entry) (brs : List Row) (r : Result (ℕ × ℕ) Values) (bs : List ℕ) (q : bs ≡ p) (e : r ≡ unpacking bs (length bes) (length brs)) where
-    pub entries-back : (bes' : List Entry) → bes' ≡ entries_after bs bes brs → bes' ≡ returned r es bes
-    entries-back bes' w =
+    pub entries_back : (bes' : List Entry) → bes' ≡ entries_after bs bes brs → bes' ≡ returned r es bes
+    entries_back bes' w =
         w ∙ ap (λ b. entries_after b bes brs) q
-        ∙ (λ i. cond (roomy-is (length bes) (length brs) r bs q e i) (shows.contents i ++ drop (routines-is i) bes) bes)
+        ∙ (λ i. cond (roomy_is (length bes) (length brs) r bs q e i) (shows.contents i ++ drop (routines_is i) bes) bes)
 
     pub rows_back : (brs' : List Row) → brs' ≡ rows_after bs bes brs → brs' ≡ returned r rs brs
     rows_back brs' w =
         w ∙ ap (λ b. rows_after b bes brs) q
-        ∙ (λ i. cond (roomy-is (length bes) (length brs) r bs q e i) (shows.bodies i ++ drop (total-is i) brs) brs)
+        ∙ (λ i. cond (roomy_is (length bes) (length brs) r bs q e i) (shows.bodies i ++ drop (total_is i) brs) brs)
 
   -- what pack wrote opens
   pub unopened : (out out' : List ℕ) (k : ℕ) → length out ≡ room → out' ≡ output_after es rs im out → k ≡ n → (e : Values) → Err e ≡ opening (take k out') → ⊥
@@ -91,6 +91,6 @@ module _ (es : List Entry) (rs : List Row) (im : List ℕ) (room n : ℕ) (v : O
       absurd (grind arith)
 
 -- a fact that always holds, of a result
-pub made-always : {X E : Type 0} {P : Type 0} (r : Result X E) → P → IfOk r (λ _. P)
-made-always (Ok x) p = p
-made-always (Err e) p = tt
+pub made_always : {X E : Type 0} {P : Type 0} (r : Result X E) → P → IfOk r (λ _. P)
+made_always (Ok x) p = p
+made_always (Err e) p = tt

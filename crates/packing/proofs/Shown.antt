@@ -14,19 +14,19 @@ use Rattle.module.specs.Layout as layout
 use Rattle.module.specs.Unpack.{entry_of, body_row, entries, rows, image}
 use Rattle.packing.specs.Pack.{entry_right, size}
 use Rattle.packing.specs.Packed.{low2, no_entry, no_row, entry_at, row_at, before, total, entry_bytes, row_bytes, blocks, packed}
-use Rattle.packing.proofs.Digits.{two_back, four-back}
+use Rattle.packing.proofs.Digits.{two_back, four_back}
 use Rattle.packing.proofs.Sums.{inside}
 
 module _ (f : ℕ → List ℕ) (eights : (k : ℕ) → length (f k) ≡ 8) where
-  pub blocks-long : (n : ℕ) → length (blocks f n) ≡ 8 * n
-  blocks-long zero = refl
-  blocks-long (suc n) = omega (arith, length-append (blocks f n) (f n), blocks-long n, eights n)
+  pub blocks_long : (n : ℕ) → length (blocks f n) ≡ 8 * n
+  blocks_long zero = refl
+  blocks_long (suc n) = omega (arith, length-append (blocks f n) (f n), blocks_long n, eights n)
 
   -- byte j of block k
   pub block_at : (n k j : ℕ) → k < n → j < 8 → get_or (blocks f n) (8 * k + j) 0 ≡ get_or (f k) j 0
   block_at zero k j h g = absurd (omega arith)
   block_at (suc n) k j h g =
-      let l = blocks-long n in
+      let l = blocks_long n in
       ⊎_elim
       (λ e. let i : 8 * k + j - 8 * n ≡ j = omega arith in
       get_or-append_right (blocks f n) (f n) (8 * n) (8 * k + j) 0 l (omega arith) ∙ (λ m. get_or (f (sym e m)) (i m) 0))
@@ -35,9 +35,9 @@ module _ (f : ℕ → List ℕ) (eights : (k : ℕ) → length (f k) ≡ 8) wher
       (λ gt. absurd (omega arith)))
       (cases_order k n)
 
-pub first-all : (test : ℕ → Bool) (left k : ℕ) → ((j : ℕ) → j < k + left → test j ≡ true) → first_failing test left k ≡ None
-first-all test zero k e = refl
-first-all test (suc left) k e = cond-true _ _ _ (e k (omega arith)) ∙ first-all test left (k + 1) (λ j h. e j (omega arith))
+pub first_all : (test : ℕ → Bool) (left k : ℕ) → ((j : ℕ) → j < k + left → test j ≡ true) → first_failing test left k ≡ None
+first_all test zero k e = refl
+first_all test (suc left) k e = cond-true _ _ _ (e k (omega arith)) ∙ first_all test left (k + 1) (λ j h. e j (omega arith))
 
 -- what the tests of pack give
 pub record Packable (es : List Entry) (rs : List Row) (im : List ℕ) : Type 0 where
@@ -65,66 +65,66 @@ module _ (es : List Entry) (rs : List Row) (im : List ℕ) (ok : Packable es rs 
   abbrev bodies : List ℕ
   bodies = blocks (λ k. row_bytes (row_at rs k)) (length rs)
 
-  contents-long : length contents ≡ 8 * n
-  contents-long = blocks-long (entry_bytes es) (λ k. refl) n
+  contents_long : length contents ≡ 8 * n
+  contents_long = blocks_long (entry_bytes es) (λ k. refl) n
 
-  bodies-long : length bodies ≡ 8 * length rs
-  bodies-long = blocks-long (λ k. row_bytes (row_at rs k)) (λ k. refl) (length rs)
+  bodies_long : length bodies ≡ 8 * length rs
+  bodies_long = blocks_long (λ k. row_bytes (row_at rs k)) (λ k. refl) (length rs)
 
   -- a byte of an entry, and of a row
   entry-byte : (at r j : ℕ) → at ≡ 4 + (8 * r + j) → r < n → j < 8 → byte p at ≡ get_or (entry_bytes es r) j 0
   entry-byte at r j e h g =
       ap (byte p) e ∙ get_or-append-add hd (contents ++ (bodies ++ im)) (8 * r + j) 0
-      ∙ get_or_append_left contents (bodies ++ im) 0 (8 * r + j) (omega (arith, contents-long))
+      ∙ get_or_append_left contents (bodies ++ im) 0 (8 * r + j) (omega (arith, contents_long))
       ∙ block_at (entry_bytes es) (λ k. refl) n r j h g
 
   row-byte : (at k j : ℕ) → at ≡ 4 + (8 * n + (8 * k + j)) → k < length rs → j < 8 → byte p at ≡ get_or (row_bytes (row_at rs k)) j 0
   row-byte at k j e h g =
       let i : 8 * n + (8 * k + j) - 8 * n ≡ 8 * k + j = omega arith in
       ap (byte p) e ∙ get_or-append-add hd (contents ++ (bodies ++ im)) (8 * n + (8 * k + j)) 0
-      ∙ get_or-append_right contents (bodies ++ im) (8 * n) (8 * n + (8 * k + j)) 0 contents-long (omega arith)
+      ∙ get_or-append_right contents (bodies ++ im) (8 * n) (8 * n + (8 * k + j)) 0 contents_long (omega arith)
       ∙ ap (λ m. get_or (bodies ++ im) m 0) i
-      ∙ get_or_append_left bodies im 0 (8 * k + j) (omega (arith, bodies-long))
+      ∙ get_or_append_left bodies im 0 (8 * k + j) (omega (arith, bodies_long))
       ∙ block_at (λ m. row_bytes (row_at rs m)) (λ m. refl) (length rs) k j h g
 
-  routines-is : layout.routines p ≡ n
-  routines-is = two_back n (omega (arith, ok.few))
+  routines_is : layout.routines p ≡ n
+  routines_is = two_back n (omega (arith, ok.few))
 
-  image-length-is : layout.image_length p ≡ length im
-  image-length-is = two_back (length im) (omega (arith, ok.small))
+  image_length_is : layout.image_length p ≡ length im
+  image_length_is = two_back (length im) (omega (arith, ok.small))
 
   module _ (r : ℕ) (h : r < n) where
-    short-count : before es r + (entry_at es r).count ≤ 4096
-    short-count = omega (arith, inside es r h, ok.short)
+    short_count : before es r + (entry_at es r).count ≤ 4096
+    short_count = omega (arith, inside es r h, ok.short)
 
-    count-is : layout.count p r ≡ (entry_at es r).count
-    count-is =
+    count_is : layout.count p r ≡ (entry_at es r).count
+    count_is =
         (λ i. entry-byte (8 + 8 * r) r 4 (omega arith) h (omega arith) i + 256 * entry-byte (8 + 8 * r + 1) r 5 (omega arith) h (omega arith) i)
-        ∙ two_back (entry_at es r).count (omega (arith, short-count))
+        ∙ two_back (entry_at es r).count (omega (arith, short_count))
 
-    arguments-is : layout.arguments p r ≡ (entry_at es r).arguments
-    arguments-is = entry-byte (10 + 8 * r) r 6 (omega arith) h (omega arith)
+    arguments_is : layout.arguments p r ≡ (entry_at es r).arguments
+    arguments_is = entry-byte (10 + 8 * r) r 6 (omega arith) h (omega arith)
 
-    results-is : layout.results p r ≡ (entry_at es r).results
-    results-is = entry-byte (11 + 8 * r) r 7 (omega arith) h (omega arith)
+    results_is : layout.results p r ≡ (entry_at es r).results
+    results_is = entry-byte (11 + 8 * r) r 7 (omega arith) h (omega arith)
 
-    offset-is : layout.offset p r ≡ 4 + 8 * n + 8 * before es r
-    offset-is =
+    offset_is : layout.offset p r ≡ 4 + 8 * n + 8 * before es r
+    offset_is =
         (λ i. entry-byte (4 + 8 * r) r 0 (omega arith) h (omega arith) i
         + 256 * entry-byte (4 + 8 * r + 1) r 1 (omega arith) h (omega arith) i
         + 65536 * entry-byte (4 + 8 * r + 2) r 2 (omega arith) h (omega arith) i
         + 16777216 * entry-byte (4 + 8 * r + 3) r 3 (omega arith) h (omega arith) i)
-        ∙ four-back (4 + 8 * n + 8 * before es r) (omega (arith, short-count, ok.few))
+        ∙ four_back (4 + 8 * n + 8 * before es r) (omega (arith, short_count, ok.few))
 
-    entry-is : entry_of p r ≡ entry_at es r
-    entry-is = λ i. record { count = count-is i; arguments = arguments-is i; results = results-is i }
+    entry_is : entry_of p r ≡ entry_at es r
+    entry_is = λ i. record { count = count_is i; arguments = arguments_is i; results = results_is i }
 
-  before-is : (r : ℕ) → r ≤ n → layout.before p r ≡ before es r
-  before-is zero h = refl
-  before-is (suc r) h = λ i. before-is r (omega arith) i + count-is r (omega arith) i
+  before_is : (r : ℕ) → r ≤ n → layout.before p r ≡ before es r
+  before_is zero h = refl
+  before_is (suc r) h = λ i. before_is r (omega arith) i + count_is r (omega arith) i
 
-  total-is : layout.total p ≡ total es
-  total-is = ap (layout.before p) routines-is ∙ before-is n (omega arith)
+  total_is : layout.total p ≡ total es
+  total_is = ap (layout.before p) routines_is ∙ before_is n (omega arith)
 
   row_is : (k : ℕ) → k < length rs → body_row p k ≡ row_at rs k
   row_is k h =
@@ -135,60 +135,60 @@ module _ (es : List Entry) (rs : List Row) (im : List ℕ) (ok : Packable es rs 
       + 256 * get (at + 4 + 1) 5 (omega arith) (omega arith) i
       + 65536 * get (at + 4 + 2) 6 (omega arith) (omega arith) i
       + 16777216 * get (at + 4 + 3) 7 (omega arith) (omega arith) i)
-      ∙ four-back (row_at rs k).n (ok.words k h) in
-      ap (λ m. layout.row_from p (4 + 8 * m + 8 * k)) routines-is
+      ∙ four_back (row_at rs k).n (ok.words k h) in
+      ap (λ m. layout.row_from p (4 + 8 * m + 8 * k)) routines_is
       ∙ (λ i. row (get at 0 (omega arith) (omega arith) i) (get (at + 1) 1 (omega arith) (omega arith) i) (get (at + 2) 2 (omega arith) (omega arith) i) (get (at + 3) 3 (omega arith) (omega arith) i) (word i))
 
-  pub entries-shown : entries p ≡ es
-  entries-shown =
-      ap (λ m. map (entry_of p) (range_with_len 0 m)) routines-is ∙ sym (fill_by_all (entry_of p) es n no_entry refl (λ k h. sym (entry-is k h)))
+  pub entries_shown : entries p ≡ es
+  entries_shown =
+      ap (λ m. map (entry_of p) (range_with_len 0 m)) routines_is ∙ sym (fill_by_all (entry_of p) es n no_entry refl (λ k h. sym (entry_is k h)))
 
-  pub rows-shown : rows p ≡ rs
-  rows-shown =
-      ap (λ m. map (body_row p) (range_with_len 0 m)) (total-is ∙ sym ok.all) ∙ sym (fill_by_all (body_row p) rs (length rs) no_row refl (λ k h. sym (row_is k h)))
+  pub rows_shown : rows p ≡ rs
+  rows_shown =
+      ap (λ m. map (body_row p) (range_with_len 0 m)) (total_is ∙ sym ok.all) ∙ sym (fill_by_all (body_row p) rs (length rs) no_row refl (λ k h. sym (row_is k h)))
 
   -- the length that the contents give
   given_is : layout.length_given p ≡ size es im
-  given_is = λ i. 4 + 8 * routines-is i + 8 * total-is i + image-length-is i
+  given_is = λ i. 4 + 8 * routines_is i + 8 * total_is i + image_length_is i
 
-  pub packed-long : length p ≡ size es im
-  packed-long =
-      omega (arith, length-append contents (bodies ++ im), length-append bodies im, contents-long, bodies-long, ok.all)
+  pub packed_long : length p ≡ size es im
+  packed_long =
+      omega (arith, length-append contents (bodies ++ im), length-append bodies im, contents_long, bodies_long, ok.all)
 
-  pub image-shown : image p ≡ im
-  image-shown =
+  pub image_shown : image p ≡ im
+  image_shown =
       let front = hd ++ (contents ++ bodies) in
       let whole : p ≡ front ++ im = ap (λ l. hd ++ l) (sym (append_assoc contents bodies im)) ∙ sym (append_assoc hd (contents ++ bodies) im) in
-      let long : length front ≡ 4 + 8 * n + 8 * total es = omega (arith, length-append contents bodies, contents-long, bodies-long, ok.all) in
-      (λ i. drop (4 + 8 * routines-is i + 8 * total-is i) (whole i)) ∙ drop_at front im (4 + 8 * n + 8 * total es) long
+      let long : length front ≡ 4 + 8 * n + 8 * total es = omega (arith, length-append contents bodies, contents_long, bodies_long, ok.all) in
+      (λ i. drop (4 + 8 * routines_is i + 8 * total_is i) (whole i)) ∙ drop_at front im (4 + 8 * n + 8 * total es) long
 
-  entry-right : (r : ℕ) → r < n → layout.entry_right p r ≡ true
-  entry-right r h =
-      let b = before-is r (omega arith) in
-      let c = count-is r h in
-      let a = arguments-is r h in
-      let g = results-is r h in
+  entry_right_lem : (r : ℕ) → r < n → layout.entry_right p r ≡ true
+  entry_right_lem r h =
+      let b = before_is r (omega arith) in
+      let c = count_is r h in
+      let a = arguments_is r h in
+      let g = results_is r h in
       let same : layout.entry_right p r ≡ (eqb (4 + 8 * n + 8 * before es r) (4 + 8 * n + 8 * before es r) && entry_right es r)
-      = λ i. eqb (offset-is r h i) (4 + 8 * routines-is i + 8 * b i)
+      = λ i. eqb (offset_is r h i) (4 + 8 * routines_is i + 8 * b i)
       && (leb 1 (c i) && (leb (a i) 32 && (leb (g i) 8 && ((not (eqb r 0) || (eqb (a i) 0 && eqb (g i) 0)) && leb (b i + c i) 4096)))) in
       same ∙ and_from _ _ (eq-eqb (4 + 8 * n + 8 * before es r) _ refl) (ok.right r h)
 
-  counts-right : layout.counts_right p ≡ true
-  counts-right =
+  counts_right_lem : layout.counts_right p ≡ true
+  counts_right_lem =
       let one : leb 1 n ≡ true = le-leb 1 n ok.some in
       let few : leb n 64 ≡ true = le-leb n 64 ok.few in
       let small : leb (length im) 4096 ≡ true = le-leb (length im) 4096 ok.small in
-      (λ i. leb 1 (routines-is i) && (leb (routines-is i) 64 && leb (image-length-is i) 4096)) ∙ and_from _ _ one (and_from _ _ few small)
+      (λ i. leb 1 (routines_is i) && (leb (routines_is i) 64 && leb (image_length_is i) 4096)) ∙ and_from _ _ one (and_from _ _ few small)
 
   pub opens : layout.opening p ≡ Ok (layout.counts p)
   opens =
-      let long = packed-long in
-      let none = ap (λ m. first_failing (layout.entry_right p) m 0) routines-is ∙ first-all (layout.entry_right p) n 0 (λ j h. entry-right j (omega arith)) in
+      let long = packed_long in
+      let none = ap (λ m. first_failing (layout.entry_right p) m 0) routines_is ∙ first_all (layout.entry_right p) n 0 (λ j h. entry_right_lem j (omega arith)) in
       let enough : leb 4 (length p) ≡ true = le-leb 4 (length p) (omega (arith, long)) in
-      let room : leb (4 + 8 * layout.routines p) (length p) ≡ true = le-leb (4 + 8 * layout.routines p) (length p) (omega (arith, long, routines-is)) in
+      let room : leb (4 + 8 * layout.routines p) (length p) ≡ true = le-leb (4 + 8 * layout.routines p) (length p) (omega (arith, long, routines_is)) in
       let exact : eqb (length p) (layout.length_given p) ≡ true = eq-eqb (length p) (layout.length_given p) (long ∙ sym given_is) in
       λ i. layout.provided (enough i) (author 1 0 0)
-      (layout.provided (counts-right i) (author 2 0 0)
+      (layout.provided (counts_right_lem i) (author 2 0 0)
       (layout.provided (room i) (author 1 0 0)
       (layout.unless_wrong (none i)
       (layout.provided (exact i) (author 4 0 0)

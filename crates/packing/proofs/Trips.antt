@@ -11,8 +11,8 @@ use Rattle.module.specs.Laid.{Laid}
 use Rattle.module.specs.Layout.{routines, total, provided}
 use Rattle.module.specs.Unpack.{entries, rows, image, roomy, unpacking, entries_after, rows_after}
 use Rattle.packing.specs.Pack.{packing, output_after}
-use Rattle.packing.proofs.Again.{packing-is, output-is}
-use Rattle.packing.proofs.Repack.{entries-long, rows_long}
+use Rattle.packing.proofs.Again.{packing_is, output_is}
+use Rattle.packing.proofs.Repack.{entries_long, rows_long}
 use Rattle.packing.specs.Shows.{repacking, repacked_into}
 
 -- a test that refused was false, and one that did not was true
@@ -28,11 +28,11 @@ module _ (bs : List ℕ) (es rs : ℕ) (e : Values) (h : ◌≡◌ {A = Result (
   no_room : (roomy bs es rs ≡ false) × (e ≡ caller 13)
   no_room = refused (roomy bs es rs) (caller 13) _ e h
 
-  pub refused-verdict : (room : ℕ) → Err e ≡ repacking bs es rs room
-  refused-verdict room = ap Err no_room.1 ∙ ap (λ b. provided (b && leb (length bs) room) (caller 13) (Ok (length bs))) (sym no_room.0)
+  pub refused_verdict : (room : ℕ) → Err e ≡ repacking bs es rs room
+  refused_verdict room = ap Err no_room.1 ∙ ap (λ b. provided (b && leb (length bs) room) (caller 13) (Ok (length bs))) (sym no_room.0)
 
-  pub refused-output : (out : List ℕ) → out ≡ repacked_into bs es rs out
-  refused-output out = ap (λ b. cond (b && leb (length bs) (length out)) (bs ++ drop (length bs) out) out) (sym no_room.0)
+  pub refused_output : (out : List ℕ) → out ≡ repacked_into bs es rs out
+  refused_output out = ap (λ b. cond (b && leb (length bs) (length out)) (bs ++ drop (length bs) out) out) (sym no_room.0)
 
 -- a front of a list that was written over the front of another
 front : {X : Type 0} (xs ys written : List X) (m n : ℕ) → m ≡ n → length xs ≡ n → written ≡ xs ++ ys → take m written ≡ xs
@@ -41,28 +41,28 @@ front xs ys written m n e long w = (λ i. take (e i) (w i)) ∙ take_at xs ys n 
 module _ (bs : List ℕ) (small : Octets bs) (ok : Laid bs) (kept : KeptEverywhere bs) (es : List Entry) (rs : List Row) (n t : ℕ)
     (h : ◌≡◌ {A = Result (ℕ × ℕ) Values} (Ok (n, t)) (unpacking bs (length es) (length rs))) (es' : List Entry) (rs' : List Row) (im : List ℕ)
     (e : es' ≡ entries_after bs es rs) (r : rs' ≡ rows_after bs es rs) (m : im ≡ image bs) where
-  room-enough : (roomy bs (length es) (length rs) ≡ true) × (◌≡◌ {A = ℕ × ℕ} (n, t) (routines bs, total bs))
-  room-enough = granted (roomy bs (length es) (length rs)) (caller 13) _ (n, t) h
+  room_enough : (roomy bs (length es) (length rs) ≡ true) × (◌≡◌ {A = ℕ × ℕ} (n, t) (routines bs, total bs))
+  room_enough = granted (roomy bs (length es) (length rs)) (caller 13) _ (n, t) h
 
-  entries-front : (k : ℕ) → k ≡ n → take k es' ≡ entries bs
-  entries-front k q =
-      front (entries bs) (drop (routines bs) es) es' k (routines bs) (q ∙ ap (λ x. x.0) room-enough.1) (entries-long bs small ok)
-      (e ∙ cond-true _ _ _ room-enough.0)
+  entries_front : (k : ℕ) → k ≡ n → take k es' ≡ entries bs
+  entries_front k q =
+      front (entries bs) (drop (routines bs) es) es' k (routines bs) (q ∙ ap (λ x. x.0) room_enough.1) (entries_long bs small ok)
+      (e ∙ cond-true _ _ _ room_enough.0)
 
-  rows-front : (k : ℕ) → k ≡ t → take k rs' ≡ rows bs
-  rows-front k q =
-      front (rows bs) (drop (total bs) rs) rs' k (total bs) (q ∙ ap (λ x. x.1) room-enough.1) (rows_long bs small ok)
-      (r ∙ cond-true _ _ _ room-enough.0)
+  rows_front : (k : ℕ) → k ≡ t → take k rs' ≡ rows bs
+  rows_front k q =
+      front (rows bs) (drop (total bs) rs) rs' k (total bs) (q ∙ ap (λ x. x.1) room_enough.1) (rows_long bs small ok)
+      (r ∙ cond-true _ _ _ room_enough.0)
 
   module _ (k j : ℕ) (p : k ≡ n) (q : j ≡ t) where
-    pub trip-verdict : (room : ℕ) → packing (take k es') (take j rs') im room ≡ repacking bs (length es) (length rs) room
-    trip-verdict room =
-        (λ i. packing (entries-front k p i) (rows-front j q i) (m i) room)
-        ∙ packing-is bs small ok kept room
-        ∙ ap (λ b. provided (b && leb (length bs) room) (caller 13) (Ok (length bs))) (sym room-enough.0)
+    pub trip_verdict : (room : ℕ) → packing (take k es') (take j rs') im room ≡ repacking bs (length es) (length rs) room
+    trip_verdict room =
+        (λ i. packing (entries_front k p i) (rows_front j q i) (m i) room)
+        ∙ packing_is bs small ok kept room
+        ∙ ap (λ b. provided (b && leb (length bs) room) (caller 13) (Ok (length bs))) (sym room_enough.0)
 
-    pub trip-output : (out : List ℕ) → output_after (take k es') (take j rs') im out ≡ repacked_into bs (length es) (length rs) out
-    trip-output out =
-        (λ i. output_after (entries-front k p i) (rows-front j q i) (m i) out)
-        ∙ output-is bs small ok kept out
-        ∙ ap (λ b. cond (b && leb (length bs) (length out)) (bs ++ drop (length bs) out) out) (sym room-enough.0)
+    pub trip_output : (out : List ℕ) → output_after (take k es') (take j rs') im out ≡ repacked_into bs (length es) (length rs) out
+    trip_output out =
+        (λ i. output_after (entries_front k p i) (rows_front j q i) (m i) out)
+        ∙ output_is bs small ok kept out
+        ∙ ap (λ b. cond (b && leb (length bs) (length out)) (bs ++ drop (length bs) out) out) (sym room_enough.0)

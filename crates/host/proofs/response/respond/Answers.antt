@@ -3,7 +3,7 @@ use Rattle.std.proofs.lemmas.Result.{err_from_is_err_and}
 use Rattle.host.specs.Ports.{reading, writing, written}
 use Rattle.host.specs.Refusals.{told, values_of}
 use Rattle.host.specs.Response.{ticked}
-use Rattle.host.proofs.Ticks.{answer-refused, ports-refused, answer-read, ports-read}
+use Rattle.host.proofs.Ticks.{answer_refused, ports_refused, answer_read, ports_read}
 use Rattle.host.proofs.response.respond.Goals as goal
 
 pub returns-in_err-write : goal.returns-in_err-write
@@ -18,8 +18,8 @@ returns-in_err-write g c =
     let r = err_from_is_err_and c.from_residual-in_err-write.result c.from_residual-in_err-write.ensures.1 in
     let said : c.from_residual-in_err-write.result ≡ Err e = cc (r.1, r.2) in
     record {
-      answer = ap told said ∙ answer-refused (m.rule host) (m.ports host) a.p a.v a.ticks a.shown _ found (values_of e) refused;
-      ports = w.ports ∙ ports-refused (m.rule host) (m.ports host) a.p a.v a.ticks a.shown _ found (values_of e) refused;
+      answer = ap told said ∙ answer_refused (m.rule host) (m.ports host) a.p a.v a.ticks a.shown _ found (values_of e) refused;
+      ports = w.ports ∙ ports_refused (m.rule host) (m.ports host) a.p a.v a.ticks a.shown _ found (values_of e) refused;
       rule = w.rule;
       base = w.base;
     }
@@ -39,8 +39,8 @@ returns g c =
       answer =
           c.read-2.ensures.answer
           ∙ ap (λ ps. reading ps a.shown) after
-          ∙ answer-read (m.rule host) (m.ports host) a.p a.v a.ticks a.shown _ found (m.lawful.senses host) taken;
-      ports = after ∙ ports-read (m.rule host) (m.ports host) a.p a.v a.ticks a.shown _ found (m.lawful.senses host) taken;
+          ∙ answer_read (m.rule host) (m.ports host) a.p a.v a.ticks a.shown _ found (m.lawful.senses host) taken;
+      ports = after ∙ ports_read (m.rule host) (m.ports host) a.p a.v a.ticks a.shown _ found (m.lawful.senses host) taken;
       rule = t.rule ∙ w.rule;
       base = t.base ∙ w.base;
     }

@@ -4,7 +4,7 @@ use Rattle.refusal.specs.Values.{told, values_of}
 use Rattle.module.specs.Told.{bytes_of}
 use Rattle.module.specs.Verdict.{checking}
 use Rattle.packing.specs.Shows.{returned}
-use Rattle.packing.proofs.Recovers.{written, unopened, refused-by-check, sheet-then, recovered-verdict, entries-back, rows_back, made-always}
+use Rattle.packing.proofs.Recovers.{written, unopened, refused_by_check, sheet_then_lem, recovered_verdict, entries_back, rows_back, made_always}
 use Rattle.packing.proofs.round.recover.Goals as goal
 
 pub returns-in_err-opened : goal.returns-in_err-opened
@@ -31,9 +31,9 @@ returns-in_err-check c =
     let p = err_from_is_err_and c.from_residual-in_err-check.result c.from_residual-in_err-check.ensures.1 in
     let said = c.in_err-check.ensures in
     record {
-      verdict = ap told p.1 ∙ ap (λ x. Err (values_of x)) p.2 ∙ refused-by-check es rs im (length out) n done.verdict done.shows _ _ _ _ (said.verdict ∙ ap (λ b. checking b (length c.args.sheet.now)) bytes);
+      verdict = ap told p.1 ∙ ap (λ x. Err (values_of x)) p.2 ∙ refused_by_check es rs im (length out) n done.verdict done.shows _ _ _ _ (said.verdict ∙ ap (λ b. checking b (length c.args.sheet.now)) bytes);
       output = done.output;
-      sheet = sheet-then es rs im (length out) n done.verdict done.shows _ _ _ bytes said.sheet;
+      sheet = sheet_then_lem es rs im (length out) n done.verdict done.shows _ _ _ bytes said.sheet;
       back_entries = ap (λ r. returned (told r) es c.args.back_entries.now) (sym p.1);
       back_rows = ap (λ r. returned (told r) rs c.args.back_rows.now) (sym p.1);
       shows = IfOk-from_err _ _ c.from_residual-in_err-check.ensures.0;
@@ -53,10 +53,10 @@ returns c =
     let said = c.in_ok-check.ensures in
     let back = c.unpack.ensures in
     record {
-      verdict = back.verdict ∙ recovered-verdict es rs im (length out) n done.verdict done.shows _ _ _ _ taken (said.verdict ∙ ap (λ b. checking b (length c.args.sheet.now)) bytes);
+      verdict = back.verdict ∙ recovered_verdict es rs im (length out) n done.verdict done.shows _ _ _ _ taken (said.verdict ∙ ap (λ b. checking b (length c.args.sheet.now)) bytes);
       output = done.output;
-      sheet = sheet-then es rs im (length out) n done.verdict done.shows _ _ _ bytes said.sheet;
-      back_entries = entries-back es rs im (length out) n done.verdict done.shows _ _ _ _ taken back.verdict _ back.entries;
+      sheet = sheet_then_lem es rs im (length out) n done.verdict done.shows _ _ _ bytes said.sheet;
+      back_entries = entries_back es rs im (length out) n done.verdict done.shows _ _ _ _ taken back.verdict _ back.entries;
       back_rows = rows_back es rs im (length out) n done.verdict done.shows _ _ _ _ taken back.verdict _ back.rows;
-      shows = made-always _ done.shows;
+      shows = made_always _ done.shows;
     }

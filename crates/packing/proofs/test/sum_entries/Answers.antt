@@ -1,7 +1,7 @@
 use Rattle.std.proofs.Common.{◌≡◌, ◌+◌, ◌≤◌, true, length, Ok, sym, refl, ap, ◌∙◌, add-one, arith}
 use Rattle.std.proofs.lemmas.Bool.Decides.{nat_tests}
 use Rattle.module.specs.Layout.{unless_wrong}
-use Rattle.module.proofs.Firsts.{first_more, first-stop}
+use Rattle.module.proofs.Firsts.{first_more, first_stop}
 use Rattle.packing.specs.Pack.{entry_right}
 use Rattle.packing.specs.Packed.{entry_at, before, total}
 use Rattle.packing.proofs.test.sum_entries.Goals as goal
@@ -10,7 +10,7 @@ pub returns-then-not-entry_right : goal.returns-then-not-entry_right
 returns-then-not-entry_right c =
     let es = c.args.entries.now in
     let wrong = c.if-not-entry_right.ensures es refl c.loop-routine.invariant.0 in
-    let e = first-stop (entry_right es) (length es) c.loop-routine.routine c.loop-routine-test.true (sym wrong) in
+    let e = first_stop (entry_right es) (length es) c.loop-routine.routine c.loop-routine-test.true (sym wrong) in
     record { verdict = ap (λ o. unless_wrong o (Ok (total es))) (sym e ∙ c.loop-routine.invariant.2); short = tt }
 
 pub loop-routine-preserved : goal.loop-routine-preserved

@@ -6,7 +6,7 @@ use Rattle.faults.specs.Lists.{marked_first}
 use Rattle.faults.specs.Shown.{faults_of}
 use Rattle.faults.specs.Tables.{rows_of}
 use Rattle.faults.proofs.Marks.{first-newest}
-use Rattle.faults.proofs.Newest.{add-room, add-full, length-full}
+use Rattle.faults.proofs.Newest.{add_room, add_full, length-full}
 use Rattle.faults.proofs.list.FaultList.add.Goals as goal
 
 -- a full list
@@ -16,7 +16,7 @@ invariant_of-self c =
     let rows = rows_of list.table in
     let new = unmarked (trip_of c.args.cause c.args.place) in
     let pushed : rows_of c.push_out.new.self ≡ drop 1 rows ++ (new ∷ []) = c.push_out.ensures in
-    let kept = ap (take list.count) pushed ∙ add-full rows new list.whole list.count c.if-self-eq-MOST_FAULTS.true in
+    let kept = ap (take list.count) pushed ∙ add_full rows new list.whole list.count c.if-self-eq-MOST_FAULTS.true in
     record {
       few = list.few;
       whole = ap length pushed ∙ length-full rows new list.whole;
@@ -29,7 +29,7 @@ returns-then-self-eq-MOST_FAULTS c =
     let rows = rows_of list.table in
     let new = unmarked (trip_of c.args.cause c.args.place) in
     let pushed : rows_of c.push_out.new.self ≡ drop 1 rows ++ (new ∷ []) = c.push_out.ensures in
-    ap (take list.count) pushed ∙ add-full rows new list.whole list.count c.if-self-eq-MOST_FAULTS.true
+    ap (take list.count) pushed ∙ add_full rows new list.whole list.count c.if-self-eq-MOST_FAULTS.true
 
 -- a list with room
 pub invariant_of-self-2 : goal.invariant_of-self-2
@@ -38,7 +38,7 @@ invariant_of-self-2 c =
     let rows = rows_of list.table in
     let new = unmarked (trip_of c.args.cause c.args.place) in
     let put : rows_of c.put.new.self ≡ set rows list.count new = c.put.ensures in
-    let kept = ap (take (list.count + 1)) put ∙ add-room rows new list.whole list.count (omega arith) in
+    let kept = ap (take (list.count + 1)) put ∙ add_room rows new list.whole list.count (omega arith) in
     record {
       few = omega arith;
       whole = ap length put ∙ length-set rows list.count new ∙ list.whole;
@@ -51,4 +51,4 @@ returns c =
     let rows = rows_of list.table in
     let new = unmarked (trip_of c.args.cause c.args.place) in
     let put : rows_of c.put.new.self ≡ set rows list.count new = c.put.ensures in
-    ap (take (list.count + 1)) put ∙ add-room rows new list.whole list.count (omega arith)
+    ap (take (list.count + 1)) put ∙ add_room rows new list.whole list.count (omega arith)

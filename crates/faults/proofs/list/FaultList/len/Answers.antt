@@ -2,7 +2,7 @@ use Rattle.std.proofs.Common.{sym, arith}
 use Rattle.std.proofs.lemmas.List.{length-take-le}
 use Rattle.faults.specs.Shown.{faults_of}
 use Rattle.faults.specs.Tables.{rows_of}
-use Rattle.faults.proofs.Marks.{marked-first}
+use Rattle.faults.proofs.Marks.{marked_first_lem}
 use Rattle.faults.proofs.list.FaultList.len.Goals as goal
 
 pub returns : goal.returns
@@ -11,5 +11,5 @@ returns c =
     record {
       length = sym (length-take-le list.count (rows_of list.table) (omega arith));
       few = list.few;
-      sorted = marked-first (faults_of list) list.sorted;
+      sorted = marked_first_lem (faults_of list) list.sorted;
     }

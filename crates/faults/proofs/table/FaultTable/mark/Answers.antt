@@ -1,5 +1,5 @@
-use Rattle.faults.proofs.Rows.{row-marked}
+use Rattle.faults.proofs.Rows.{row_marked}
 use Rattle.faults.proofs.table.FaultTable.mark.Goals as goal
 
 pub returns : goal.returns
-returns c = row-marked c.args.self.now.rows c.requires.whole c.args.i c.requires.row _
+returns c = row_marked c.args.self.now.rows c.requires.whole c.args.i c.requires.row _

@@ -1,7 +1,7 @@
 use Rattle.std.proofs.Common.{◌≡◌, ◌<◌, length, get_or, take, drop, refl, ap, ◌∙◌, arith, length-take}
 use Rattle.host.specs.Ports.{most_ports, blank, at_rest}
 use Rattle.host.proofs.Fronts.{in_rows}
-use Rattle.host.proofs.Sweep.{swept, length-swept, swept-read, swept-more, swept-front, swept-back}
+use Rattle.host.proofs.Sweep.{swept, length-swept, swept_read, swept_more, swept_front, swept_back}
 use Rattle.host.proofs.table.TableHostHost.rest.Goals as goal
 
 pub offset_bounds-self-p : goal.offset_bounds-self-p
@@ -18,8 +18,8 @@ loop-p-preserved c =
     let rows = c.args.self.now.rows.now in
     let p = c.loop-p.p in
     let h : p < length rows = in_rows most_ports rows p (omega arith) in
-    let read = ap (λ rs. at_rest (get_or rs p blank)) c.loop-p.invariant.1 ∙ ap at_rest (swept-read at_rest blank p rows) in
-    let more = swept-more at_rest blank p rows h in
+    let read = ap (λ rs. at_rest (get_or rs p blank)) c.loop-p.invariant.1 ∙ ap at_rest (swept_read at_rest blank p rows) in
+    let more = swept_more at_rest blank p rows h in
     (c.loop-p.invariant.0, cc (c.rest.ensures, c.loop-p.invariant.1))
 
 pub returns : goal.returns
@@ -28,9 +28,9 @@ returns c =
     let whole : c.loop-p.p ≡ length (take most_ports rows) = omega arith in
     let after : c.loop-p.self.rows.now ≡ swept at_rest (length (take most_ports rows)) rows =
     c.loop-p.invariant.1 ∙ ap (λ i. swept at_rest i rows) whole in
-    let past : drop most_ports c.loop-p.self.rows.now ≡ drop most_ports rows = ap (drop most_ports) after ∙ swept-back at_rest most_ports rows in
+    let past : drop most_ports c.loop-p.self.rows.now ≡ drop most_ports rows = ap (drop most_ports) after ∙ swept_back at_rest most_ports rows in
     record {
-      ports = ap (take most_ports) after ∙ swept-front at_rest most_ports rows;
+      ports = ap (take most_ports) after ∙ swept_front at_rest most_ports rows;
       rule = refl;
       base = λ i. (c.loop-p.invariant.0 i, past i);
     }

@@ -5,14 +5,14 @@ use Rattle.isa.specs.declared.instr.Instr.TheVariants.{Call}
 use Rattle.module.specs.Layout.{routines, results, signature}
 use Rattle.module.specs.Places.{instr_at}
 use Rattle.module.specs.Told.{bytes_of}
-use Rattle.module.proofs.Accepts.{accepts-laid}
-use Rattle.module.proofs.At.{a-signature}
+use Rattle.module.proofs.Accepts.{accepts_laid}
+use Rattle.module.proofs.At.{a_signature}
 use Rattle.machine.specs.Level.{onward, given, values_from}
 use Rattle.machine.specs.Nested.{running, waiting, first_of}
 use Rattle.machine.specs.View.{world_of}
 use Rattle.machine.specs.World.{effect, after, handed, resumed, into, here, shape_of}
 use Rattle.machine.proofs.Legal.{ready, returning, low, length-shape}
-use Rattle.machine.proofs.Handing.{split-first}
+use Rattle.machine.proofs.Handing.{split_first}
 use Rattle.machine.proofs.Steps.{goes_on, has_ended}
 use Rattle.machine.proofs.machine.Machine.give_back.Goals as goal
 
@@ -30,7 +30,7 @@ unreachable-requires c =
     let s = c.args.self.now.stack in
     let r = ready bs (running s) (waiting s) _ c.requires.able c.requires.stands in
     let there : c.routine-routine.result < routines bs = omega (arith, r.routine, c.routine-routine.ensures) in
-    let given = c.in_default.ensures ∙ a-signature bs c.routine-routine.result there in
+    let given = c.in_default.ensures ∙ a_signature bs c.routine-routine.result there in
     let z : ◌≡◌ {A = ℕ} 0 1 = cc in
     omega arith
 
@@ -69,12 +69,12 @@ leave-requires c =
     let first : c.results_into.result ≡ w.a = c.results_into.ensures w.a w.b l.routine is in
     let r = ready bs l (waiting s) _ c.requires.able c.requires.stands in
     let there : c.routine-routine.result < routines bs = omega (arith, r.routine, c.routine-routine.ensures) in
-    let told : Some c.in-Some.signature ≡ Some (signature bs c.routine-routine.result) = c.in-Some.ensures ∙ a-signature bs c.routine-routine.result there in
+    let told : Some c.in-Some.signature ≡ Some (signature bs c.routine-routine.result) = c.in-Some.ensures ∙ a_signature bs c.routine-routine.result there in
     let whole : c.in-Some.signature ≡ signature bs c.routine-routine.result = cc in
     let count : c.in-Some.signature.results ≡ results bs l.routine = ap (λ (x : Signature). x.results) whole ∙ ap (results bs) c.routine-routine.ensures in
     let given-there : c.args.a + results bs l.routine ≤ length (shape_of l.registers) = r.legal.fit.read in
     let taken-there : w.a + results bs l.routine ≤ length (shape_of g.registers) = w.caller.legal.fit.write in
-    let few = low bs (accepts-laid bs c.args.checked.now.keeps) g _ w.caller in
+    let few = low bs (accepts_laid bs c.args.checked.now.keeps) g _ w.caller in
     record {
       sized = record { nested = m.nested; whole = m.whole };
       some = w.some;
@@ -98,7 +98,7 @@ returns c = λ rule ports.
     let first : c.results_into.result ≡ w.a = c.results_into.ensures w.a w.b l.routine is in
     let r = ready bs l (waiting s) _ c.requires.able c.requires.stands in
     let there : c.routine-routine.result < routines bs = omega (arith, r.routine, c.routine-routine.ensures) in
-    let told : Some c.in-Some.signature ≡ Some (signature bs c.routine-routine.result) = c.in-Some.ensures ∙ a-signature bs c.routine-routine.result there in
+    let told : Some c.in-Some.signature ≡ Some (signature bs c.routine-routine.result) = c.in-Some.ensures ∙ a_signature bs c.routine-routine.result there in
     let whole : c.in-Some.signature ≡ signature bs c.routine-routine.result = cc in
     let count : c.in-Some.signature.results ≡ results bs l.routine = ap (λ (x : Signature). x.results) whole ∙ ap (results bs) c.routine-routine.ensures in
     let vs = values_from l.registers c.args.a (results bs l.routine) in
@@ -106,5 +106,5 @@ returns c = λ rule ports.
     goes_on m ports c.requires.running _ (resumed bs g vs) (drop 1 (waiting s))
     (c.leave.ensures.running ∙ (λ i. onward g (given g.registers ((first ∙ sym wants) i) (values_from l.registers c.args.a (count i)))))
     c.leave.ensures.waiting refl refl
-    ∙ ap (λ ls. after (world_of m ports) l (handed bs vs ls m.memory.bytes ports)) (sym (split-first (waiting s) w.some))
+    ∙ ap (λ ls. after (world_of m ports) l (handed bs vs ls m.memory.bytes ports)) (sym (split_first (waiting s) w.some))
     ∙ ap (after (world_of m ports) l) (sym (cond-false (eqb l.routine 0) _ _ (sym c.if-ends_run.ensures)))

@@ -5,11 +5,11 @@ use Rattle.isa.specs.declared.instr.Instr.TheVariants.{New, Def, Kill, Mov, Swap
 use Rattle.words.specs.Words.{calculated, divided, passing}
 use Rattle.module.specs.Places.{instr_at}
 use Rattle.module.specs.Told.{bytes_of}
-use Rattle.module.proofs.Accepts.{accepts-laid}
+use Rattle.module.proofs.Accepts.{accepts_laid}
 use Rattle.host.specs.declared.port.Port.{Port}
 use Rattle.host.specs.Ports.{writing, written}
 use Rattle.host.specs.Refusals.{values_of}
-use Rattle.host.proofs.Ticks.{refused-written}
+use Rattle.host.proofs.Ticks.{refused_written}
 use Rattle.faults.specs.Causes.{by_engine}
 use Rattle.machine.specs.Level.{value, onward, wrote, jumped}
 use Rattle.machine.specs.Memory.{fits, loading, storing}
@@ -17,7 +17,7 @@ use Rattle.machine.specs.Nested.{running, waiting}
 use Rattle.machine.specs.View.{world_of, levels_in}
 use Rattle.machine.specs.World.{goes, trips, or_trip, or_refused, world, tripped, trip_at, shape_of, effect, after, step}
 use Rattle.machine.proofs.Legal.{ready, stuck, low, length-shape}
-use Rattle.machine.proofs.Steps.{standing, base, went, tripped-here}
+use Rattle.machine.proofs.Steps.{standing, base, went, tripped_here}
 use Rattle.machine.proofs.machine.Machine.step.Goals as goal
 
 pub unreachable-requires : goal.unreachable-requires
@@ -35,7 +35,7 @@ push-requires g c =
     let x : Instr = New in
     let e = standing bs s c.routine-routine.result c.pc-pc.result x (sym (ap Some c.in-New.is) ∙ c.in-Some.ensures) c.routine-routine.ensures c.pc-pc.ensures in
     let r = ready bs (running s) (waiting s) x c.requires.able e in
-    let few = low bs (accepts-laid bs c.args.checked.now.keeps) (running s) x r in
+    let few = low bs (accepts_laid bs c.args.checked.now.keeps) (running s) x r in
     let depth = length-shape (running s).registers in
     let h0 : length (shape_of (running s).registers) ≤ 31 = leb-true (length (shape_of (running s).registers)) 31 r.legal.stacked in
     record { sized = record { nested = m.nested; whole = m.whole }; room = omega arith; place = omega arith }
@@ -48,7 +48,7 @@ push-requires-in-Def g c =
     let x : Instr = Def c.in-Def.n in
     let e = standing bs s c.routine-routine.result c.pc-pc.result x (sym (ap Some c.in-Def.is) ∙ c.in-Some.ensures) c.routine-routine.ensures c.pc-pc.ensures in
     let r = ready bs (running s) (waiting s) x c.requires.able e in
-    let few = low bs (accepts-laid bs c.args.checked.now.keeps) (running s) x r in
+    let few = low bs (accepts_laid bs c.args.checked.now.keeps) (running s) x r in
     let depth = length-shape (running s).registers in
     let h0 : length (shape_of (running s).registers) ≤ 31 = leb-true (length (shape_of (running s).registers)) 31 r.legal.stacked in
     record { sized = record { nested = m.nested; whole = m.whole }; room = omega arith; place = omega arith }
@@ -61,7 +61,7 @@ pop-requires g c =
     let x : Instr = Kill in
     let e = standing bs s c.routine-routine.result c.pc-pc.result x (sym (ap Some c.in-Kill.is) ∙ c.in-Some.ensures) c.routine-routine.ensures c.pc-pc.ensures in
     let r = ready bs (running s) (waiting s) x c.requires.able e in
-    let few = low bs (accepts-laid bs c.args.checked.now.keeps) (running s) x r in
+    let few = low bs (accepts_laid bs c.args.checked.now.keeps) (running s) x r in
     let depth = length-shape (running s).registers in
     let h0 : 1 ≤ length (shape_of (running s).registers) = leb-true 1 (length (shape_of (running s).registers)) r.legal.stacked in
     record { sized = record { nested = m.nested; whole = m.whole }; some = omega arith; place = omega arith }
@@ -74,7 +74,7 @@ read-v-requires g c =
     let x : Instr = Mov c.in-Mov.a c.in-Mov.b in
     let e = standing bs s c.routine-routine.result c.pc-pc.result x (sym (ap Some c.in-Mov.is) ∙ c.in-Some.ensures) c.routine-routine.ensures c.pc-pc.ensures in
     let r = ready bs (running s) (waiting s) x c.requires.able e in
-    let few = low bs (accepts-laid bs c.args.checked.now.keeps) (running s) x r in
+    let few = low bs (accepts_laid bs c.args.checked.now.keeps) (running s) x r in
     let depth = length-shape (running s).registers in
     let h0 : c.in-Mov.b + 1 ≤ length (shape_of (running s).registers) = r.legal.fit.read in
     record { sized = record { nested = m.nested; whole = m.whole }; there = omega arith }
@@ -87,7 +87,7 @@ write-requires g c =
     let x : Instr = Mov c.in-Mov.a c.in-Mov.b in
     let e = standing bs s c.routine-routine.result c.pc-pc.result x (sym (ap Some c.in-Mov.is) ∙ c.in-Some.ensures) c.routine-routine.ensures c.pc-pc.ensures in
     let r = ready bs (running s) (waiting s) x c.requires.able e in
-    let few = low bs (accepts-laid bs c.args.checked.now.keeps) (running s) x r in
+    let few = low bs (accepts_laid bs c.args.checked.now.keeps) (running s) x r in
     let depth = length-shape (running s).registers in
     let h0 : c.in-Mov.a + 1 ≤ length (shape_of (running s).registers) = r.legal.fit.write in
     record { sized = record { nested = m.nested; whole = m.whole }; there = omega arith; place = omega arith }
@@ -100,7 +100,7 @@ swap-requires g c =
     let x : Instr = Swap c.in-Swap.a c.in-Swap.b in
     let e = standing bs s c.routine-routine.result c.pc-pc.result x (sym (ap Some c.in-Swap.is) ∙ c.in-Some.ensures) c.routine-routine.ensures c.pc-pc.ensures in
     let r = ready bs (running s) (waiting s) x c.requires.able e in
-    let few = low bs (accepts-laid bs c.args.checked.now.keeps) (running s) x r in
+    let few = low bs (accepts_laid bs c.args.checked.now.keeps) (running s) x r in
     let depth = length-shape (running s).registers in
     let h0 : c.in-Swap.a + 1 ≤ length (shape_of (running s).registers) = r.legal.fit.read in
     let h1 : c.in-Swap.b + 1 ≤ length (shape_of (running s).registers) = r.legal.fit.read2 in
@@ -114,7 +114,7 @@ read-requires g c =
     let x : Instr = Calc c.in-Calc.operation c.in-Calc.a c.in-Calc.b c.in-Calc.c in
     let e = standing bs s c.routine-routine.result c.pc-pc.result x (sym (ap Some c.in-Calc.is) ∙ c.in-Some.ensures) c.routine-routine.ensures c.pc-pc.ensures in
     let r = ready bs (running s) (waiting s) x c.requires.able e in
-    let few = low bs (accepts-laid bs c.args.checked.now.keeps) (running s) x r in
+    let few = low bs (accepts_laid bs c.args.checked.now.keeps) (running s) x r in
     let depth = length-shape (running s).registers in
     let h0 : c.in-Calc.b + 1 ≤ length (shape_of (running s).registers) = r.legal.fit.read in
     record { sized = record { nested = m.nested; whole = m.whole }; there = omega arith }
@@ -127,7 +127,7 @@ read-requires-in-Calc g c =
     let x : Instr = Calc c.in-Calc.operation c.in-Calc.a c.in-Calc.b c.in-Calc.c in
     let e = standing bs s c.routine-routine.result c.pc-pc.result x (sym (ap Some c.in-Calc.is) ∙ c.in-Some.ensures) c.routine-routine.ensures c.pc-pc.ensures in
     let r = ready bs (running s) (waiting s) x c.requires.able e in
-    let few = low bs (accepts-laid bs c.args.checked.now.keeps) (running s) x r in
+    let few = low bs (accepts_laid bs c.args.checked.now.keeps) (running s) x r in
     let depth = length-shape (running s).registers in
     let h0 : c.in-Calc.c + 1 ≤ length (shape_of (running s).registers) = r.legal.fit.read2 in
     record { sized = record { nested = m.nested; whole = m.whole }; there = omega arith }
@@ -140,7 +140,7 @@ write-requires-in-Calc g c =
     let x : Instr = Calc c.in-Calc.operation c.in-Calc.a c.in-Calc.b c.in-Calc.c in
     let e = standing bs s c.routine-routine.result c.pc-pc.result x (sym (ap Some c.in-Calc.is) ∙ c.in-Some.ensures) c.routine-routine.ensures c.pc-pc.ensures in
     let r = ready bs (running s) (waiting s) x c.requires.able e in
-    let few = low bs (accepts-laid bs c.args.checked.now.keeps) (running s) x r in
+    let few = low bs (accepts_laid bs c.args.checked.now.keeps) (running s) x r in
     let depth = length-shape (running s).registers in
     let h0 : c.in-Calc.a + 1 ≤ length (shape_of (running s).registers) = r.legal.fit.write in
     record { sized = record { nested = m.nested; whole = m.whole }; there = omega arith; place = omega arith }
@@ -153,7 +153,7 @@ read-requires-in-Divide g c =
     let x : Instr = Divide c.in-Divide.part c.in-Divide.kind c.in-Divide.a c.in-Divide.b c.in-Divide.c in
     let e = standing bs s c.routine-routine.result c.pc-pc.result x (sym (ap Some c.in-Divide.is) ∙ c.in-Some.ensures) c.routine-routine.ensures c.pc-pc.ensures in
     let r = ready bs (running s) (waiting s) x c.requires.able e in
-    let few = low bs (accepts-laid bs c.args.checked.now.keeps) (running s) x r in
+    let few = low bs (accepts_laid bs c.args.checked.now.keeps) (running s) x r in
     let depth = length-shape (running s).registers in
     let h0 : c.in-Divide.b + 1 ≤ length (shape_of (running s).registers) = r.legal.fit.read in
     record { sized = record { nested = m.nested; whole = m.whole }; there = omega arith }
@@ -166,7 +166,7 @@ read-requires-in-Divide-2 g c =
     let x : Instr = Divide c.in-Divide.part c.in-Divide.kind c.in-Divide.a c.in-Divide.b c.in-Divide.c in
     let e = standing bs s c.routine-routine.result c.pc-pc.result x (sym (ap Some c.in-Divide.is) ∙ c.in-Some.ensures) c.routine-routine.ensures c.pc-pc.ensures in
     let r = ready bs (running s) (waiting s) x c.requires.able e in
-    let few = low bs (accepts-laid bs c.args.checked.now.keeps) (running s) x r in
+    let few = low bs (accepts_laid bs c.args.checked.now.keeps) (running s) x r in
     let depth = length-shape (running s).registers in
     let h0 : c.in-Divide.c + 1 ≤ length (shape_of (running s).registers) = r.legal.fit.read2 in
     record { sized = record { nested = m.nested; whole = m.whole }; there = omega arith }
@@ -179,7 +179,7 @@ write-requires-in-Some-divide g c =
     let x : Instr = Divide c.in-Divide.part c.in-Divide.kind c.in-Divide.a c.in-Divide.b c.in-Divide.c in
     let e = standing bs s c.routine-routine.result c.pc-pc.result x (sym (ap Some c.in-Divide.is) ∙ c.in-Some.ensures) c.routine-routine.ensures c.pc-pc.ensures in
     let r = ready bs (running s) (waiting s) x c.requires.able e in
-    let few = low bs (accepts-laid bs c.args.checked.now.keeps) (running s) x r in
+    let few = low bs (accepts_laid bs c.args.checked.now.keeps) (running s) x r in
     let depth = length-shape (running s).registers in
     let h0 : c.in-Divide.a + 1 ≤ length (shape_of (running s).registers) = r.legal.fit.write in
     record { sized = record { nested = m.nested; whole = m.whole }; there = omega arith; place = omega arith }
@@ -192,7 +192,7 @@ trip-requires g c =
     let x : Instr = Divide c.in-Divide.part c.in-Divide.kind c.in-Divide.a c.in-Divide.b c.in-Divide.c in
     let e = standing bs s c.routine-routine.result c.pc-pc.result x (sym (ap Some c.in-Divide.is) ∙ c.in-Some.ensures) c.routine-routine.ensures c.pc-pc.ensures in
     let r = ready bs (running s) (waiting s) x c.requires.able e in
-    let few = low bs (accepts-laid bs c.args.checked.now.keeps) (running s) x r in
+    let few = low bs (accepts_laid bs c.args.checked.now.keeps) (running s) x r in
     let depth = length-shape (running s).registers in
     record { running = c.requires.running; routine = few.0; instruction = few.1 }
 
@@ -204,7 +204,7 @@ address-address-requires g c =
     let x : Instr = Load c.in-Load.width c.in-Load.a c.in-Load.b c.in-Load.n in
     let e = standing bs s c.routine-routine.result c.pc-pc.result x (sym (ap Some c.in-Load.is) ∙ c.in-Some.ensures) c.routine-routine.ensures c.pc-pc.ensures in
     let r = ready bs (running s) (waiting s) x c.requires.able e in
-    let few = low bs (accepts-laid bs c.args.checked.now.keeps) (running s) x r in
+    let few = low bs (accepts_laid bs c.args.checked.now.keeps) (running s) x r in
     let depth = length-shape (running s).registers in
     let h0 : c.in-Load.b + 1 ≤ length (shape_of (running s).registers) = r.legal.fit.read in
     omega arith
@@ -217,7 +217,7 @@ write-requires-in-Some-load g c =
     let x : Instr = Load c.in-Load.width c.in-Load.a c.in-Load.b c.in-Load.n in
     let e = standing bs s c.routine-routine.result c.pc-pc.result x (sym (ap Some c.in-Load.is) ∙ c.in-Some.ensures) c.routine-routine.ensures c.pc-pc.ensures in
     let r = ready bs (running s) (waiting s) x c.requires.able e in
-    let few = low bs (accepts-laid bs c.args.checked.now.keeps) (running s) x r in
+    let few = low bs (accepts_laid bs c.args.checked.now.keeps) (running s) x r in
     let depth = length-shape (running s).registers in
     let h0 : c.in-Load.a + 1 ≤ length (shape_of (running s).registers) = r.legal.fit.write in
     record { sized = record { nested = m.nested; whole = m.whole }; there = omega arith; place = omega arith }
@@ -230,7 +230,7 @@ trip-requires-in-None-load g c =
     let x : Instr = Load c.in-Load.width c.in-Load.a c.in-Load.b c.in-Load.n in
     let e = standing bs s c.routine-routine.result c.pc-pc.result x (sym (ap Some c.in-Load.is) ∙ c.in-Some.ensures) c.routine-routine.ensures c.pc-pc.ensures in
     let r = ready bs (running s) (waiting s) x c.requires.able e in
-    let few = low bs (accepts-laid bs c.args.checked.now.keeps) (running s) x r in
+    let few = low bs (accepts_laid bs c.args.checked.now.keeps) (running s) x r in
     let depth = length-shape (running s).registers in
     record { running = c.requires.running; routine = few.0; instruction = few.1 }
 
@@ -242,7 +242,7 @@ address-address-requires-in-Store g c =
     let x : Instr = Store c.in-Store.width c.in-Store.a c.in-Store.b c.in-Store.n in
     let e = standing bs s c.routine-routine.result c.pc-pc.result x (sym (ap Some c.in-Store.is) ∙ c.in-Some.ensures) c.routine-routine.ensures c.pc-pc.ensures in
     let r = ready bs (running s) (waiting s) x c.requires.able e in
-    let few = low bs (accepts-laid bs c.args.checked.now.keeps) (running s) x r in
+    let few = low bs (accepts_laid bs c.args.checked.now.keeps) (running s) x r in
     let depth = length-shape (running s).registers in
     let h0 : c.in-Store.b + 1 ≤ length (shape_of (running s).registers) = r.legal.fit.read2 in
     omega arith
@@ -255,7 +255,7 @@ read-v-requires-in-Store g c =
     let x : Instr = Store c.in-Store.width c.in-Store.a c.in-Store.b c.in-Store.n in
     let e = standing bs s c.routine-routine.result c.pc-pc.result x (sym (ap Some c.in-Store.is) ∙ c.in-Some.ensures) c.routine-routine.ensures c.pc-pc.ensures in
     let r = ready bs (running s) (waiting s) x c.requires.able e in
-    let few = low bs (accepts-laid bs c.args.checked.now.keeps) (running s) x r in
+    let few = low bs (accepts_laid bs c.args.checked.now.keeps) (running s) x r in
     let depth = length-shape (running s).registers in
     let h0 : c.in-Store.a + 1 ≤ length (shape_of (running s).registers) = r.legal.fit.read in
     record { sized = record { nested = m.nested; whole = m.whole }; there = omega arith }
@@ -268,7 +268,7 @@ skip-requires g c =
     let x : Instr = Store c.in-Store.width c.in-Store.a c.in-Store.b c.in-Store.n in
     let e = standing bs s c.routine-routine.result c.pc-pc.result x (sym (ap Some c.in-Store.is) ∙ c.in-Some.ensures) c.routine-routine.ensures c.pc-pc.ensures in
     let r = ready bs (running s) (waiting s) x c.requires.able e in
-    let few = low bs (accepts-laid bs c.args.checked.now.keeps) (running s) x r in
+    let few = low bs (accepts_laid bs c.args.checked.now.keeps) (running s) x r in
     let depth = length-shape (running s).registers in
     record { sized = record { nested = m.nested; whole = m.whole }; place = omega arith }
 
@@ -280,7 +280,7 @@ trip-requires-else-store g c =
     let x : Instr = Store c.in-Store.width c.in-Store.a c.in-Store.b c.in-Store.n in
     let e = standing bs s c.routine-routine.result c.pc-pc.result x (sym (ap Some c.in-Store.is) ∙ c.in-Some.ensures) c.routine-routine.ensures c.pc-pc.ensures in
     let r = ready bs (running s) (waiting s) x c.requires.able e in
-    let few = low bs (accepts-laid bs c.args.checked.now.keeps) (running s) x r in
+    let few = low bs (accepts_laid bs c.args.checked.now.keeps) (running s) x r in
     let depth = length-shape (running s).registers in
     record { running = c.requires.running; routine = few.0; instruction = few.1 }
 
@@ -292,7 +292,7 @@ read-requires-in-Branch g c =
     let x : Instr = Branch c.in-Branch.test c.in-Branch.a c.in-Branch.b c.in-Branch.n in
     let e = standing bs s c.routine-routine.result c.pc-pc.result x (sym (ap Some c.in-Branch.is) ∙ c.in-Some.ensures) c.routine-routine.ensures c.pc-pc.ensures in
     let r = ready bs (running s) (waiting s) x c.requires.able e in
-    let few = low bs (accepts-laid bs c.args.checked.now.keeps) (running s) x r in
+    let few = low bs (accepts_laid bs c.args.checked.now.keeps) (running s) x r in
     let depth = length-shape (running s).registers in
     let h0 : c.in-Branch.a + 1 ≤ length (shape_of (running s).registers) = r.legal.fit.read in
     record { sized = record { nested = m.nested; whole = m.whole }; there = omega arith }
@@ -305,7 +305,7 @@ read-requires-in-Branch-2 g c =
     let x : Instr = Branch c.in-Branch.test c.in-Branch.a c.in-Branch.b c.in-Branch.n in
     let e = standing bs s c.routine-routine.result c.pc-pc.result x (sym (ap Some c.in-Branch.is) ∙ c.in-Some.ensures) c.routine-routine.ensures c.pc-pc.ensures in
     let r = ready bs (running s) (waiting s) x c.requires.able e in
-    let few = low bs (accepts-laid bs c.args.checked.now.keeps) (running s) x r in
+    let few = low bs (accepts_laid bs c.args.checked.now.keeps) (running s) x r in
     let depth = length-shape (running s).registers in
     let h0 : c.in-Branch.b + 1 ≤ length (shape_of (running s).registers) = r.legal.fit.read2 in
     record { sized = record { nested = m.nested; whole = m.whole }; there = omega arith }
@@ -318,7 +318,7 @@ skip-requires-else-passes g c =
     let x : Instr = Branch c.in-Branch.test c.in-Branch.a c.in-Branch.b c.in-Branch.n in
     let e = standing bs s c.routine-routine.result c.pc-pc.result x (sym (ap Some c.in-Branch.is) ∙ c.in-Some.ensures) c.routine-routine.ensures c.pc-pc.ensures in
     let r = ready bs (running s) (waiting s) x c.requires.able e in
-    let few = low bs (accepts-laid bs c.args.checked.now.keeps) (running s) x r in
+    let few = low bs (accepts_laid bs c.args.checked.now.keeps) (running s) x r in
     let depth = length-shape (running s).registers in
     record { sized = record { nested = m.nested; whole = m.whole }; place = omega arith }
 
@@ -330,7 +330,7 @@ write-requires-in-Ok g c =
     let x : Instr = Get c.in-Get.a c.in-Get.c in
     let e = standing bs s c.routine-routine.result c.pc-pc.result x (sym (ap Some c.in-Get.is) ∙ c.in-Some.ensures) c.routine-routine.ensures c.pc-pc.ensures in
     let r = ready bs (running s) (waiting s) x c.requires.able e in
-    let few = low bs (accepts-laid bs c.args.checked.now.keeps) (running s) x r in
+    let few = low bs (accepts_laid bs c.args.checked.now.keeps) (running s) x r in
     let depth = length-shape (running s).registers in
     let h0 : c.in-Get.a + 1 ≤ length (shape_of (running s).registers) = r.legal.fit.write in
     record { sized = record { nested = m.nested; whole = m.whole }; there = omega arith; place = omega arith }
@@ -343,7 +343,7 @@ trip-requires-in-Err g c =
     let x : Instr = Get c.in-Get.a c.in-Get.c in
     let e = standing bs s c.routine-routine.result c.pc-pc.result x (sym (ap Some c.in-Get.is) ∙ c.in-Some.ensures) c.routine-routine.ensures c.pc-pc.ensures in
     let r = ready bs (running s) (waiting s) x c.requires.able e in
-    let few = low bs (accepts-laid bs c.args.checked.now.keeps) (running s) x r in
+    let few = low bs (accepts_laid bs c.args.checked.now.keeps) (running s) x r in
     let depth = length-shape (running s).registers in
     record { running = c.requires.running; routine = few.0; instruction = few.1 }
 
@@ -355,7 +355,7 @@ read-requires-in-Put g c =
     let x : Instr = Put c.in-Put.b c.in-Put.c in
     let e = standing bs s c.routine-routine.result c.pc-pc.result x (sym (ap Some c.in-Put.is) ∙ c.in-Some.ensures) c.routine-routine.ensures c.pc-pc.ensures in
     let r = ready bs (running s) (waiting s) x c.requires.able e in
-    let few = low bs (accepts-laid bs c.args.checked.now.keeps) (running s) x r in
+    let few = low bs (accepts_laid bs c.args.checked.now.keeps) (running s) x r in
     let depth = length-shape (running s).registers in
     let h0 : c.in-Put.b + 1 ≤ length (shape_of (running s).registers) = r.legal.fit.read in
     record { sized = record { nested = m.nested; whole = m.whole }; there = omega arith }
@@ -368,7 +368,7 @@ skip-requires-in-Ok-write g c =
     let x : Instr = Put c.in-Put.b c.in-Put.c in
     let e = standing bs s c.routine-routine.result c.pc-pc.result x (sym (ap Some c.in-Put.is) ∙ c.in-Some.ensures) c.routine-routine.ensures c.pc-pc.ensures in
     let r = ready bs (running s) (waiting s) x c.requires.able e in
-    let few = low bs (accepts-laid bs c.args.checked.now.keeps) (running s) x r in
+    let few = low bs (accepts_laid bs c.args.checked.now.keeps) (running s) x r in
     let depth = length-shape (running s).registers in
     record { sized = record { nested = m.nested; whole = m.whole }; place = omega arith }
 
@@ -380,7 +380,7 @@ trip-requires-in-Err-write g c =
     let x : Instr = Put c.in-Put.b c.in-Put.c in
     let e = standing bs s c.routine-routine.result c.pc-pc.result x (sym (ap Some c.in-Put.is) ∙ c.in-Some.ensures) c.routine-routine.ensures c.pc-pc.ensures in
     let r = ready bs (running s) (waiting s) x c.requires.able e in
-    let few = low bs (accepts-laid bs c.args.checked.now.keeps) (running s) x r in
+    let few = low bs (accepts_laid bs c.args.checked.now.keeps) (running s) x r in
     let depth = length-shape (running s).registers in
     record { running = c.requires.running; routine = few.0; instruction = few.1 }
 
@@ -392,7 +392,7 @@ skip-requires-in-Tick g c =
     let x : Instr = Tick in
     let e = standing bs s c.routine-routine.result c.pc-pc.result x (sym (ap Some c.in-Tick.is) ∙ c.in-Some.ensures) c.routine-routine.ensures c.pc-pc.ensures in
     let r = ready bs (running s) (waiting s) x c.requires.able e in
-    let few = low bs (accepts-laid bs c.args.checked.now.keeps) (running s) x r in
+    let few = low bs (accepts_laid bs c.args.checked.now.keeps) (running s) x r in
     let depth = length-shape (running s).registers in
     record { sized = record { nested = m.nested; whole = m.whole }; place = omega arith }
 
@@ -551,7 +551,7 @@ returns-in-None g c =
     let given : None ≡ divided c.in-Divide.part c.in-Divide.kind (value (running s) c.in-Divide.b) (value (running s) c.in-Divide.c) =
     c.in-None.ensures.value ∙ (λ i. divided c.in-Divide.part c.in-Divide.kind (c.read-in-Divide.ensures i) (c.read-in-Divide-2.ensures i)) in
     record {
-      step = tripped-here bs rule m ports c.requires.running c.requires.able x e _ _ _ (ap (λ o. or_trip o (by_engine 1 0) (λ v. goes (wrote (running s) c.in-Divide.a v ∷ waiting s) m.memory.bytes ports)) (sym given)) refl c.trip.ensures;
+      step = tripped_here bs rule m ports c.requires.running c.requires.able x e _ _ _ (ap (λ o. or_trip o (by_engine 1 0) (λ v. goes (wrote (running s) c.in-Divide.a v ∷ waiting s) m.memory.bytes ports)) (sym given)) refl c.trip.ensures;
       rule = refl;
       base = refl;
     }
@@ -591,7 +591,7 @@ returns-in-None-load g c =
     let left : (ps : List Port) → world_of c.trip-in-None-load.new.self ps ≡ after (world_of m ps) (running s) (trips (by_engine 2 c.address-address.result)) =
     c.trip-in-None-load.ensures in
     record {
-      step = tripped-here bs rule m ports c.requires.running c.requires.able x e _ _ _ (ap (λ o. or_trip o (by_engine 2 (value (running s) c.in-Load.b + c.in-Load.n)) (λ v. goes (wrote (running s) c.in-Load.a v ∷ waiting s) m.memory.bytes ports)) (sym given)) refl
+      step = tripped_here bs rule m ports c.requires.running c.requires.able x e _ _ _ (ap (λ o. or_trip o (by_engine 2 (value (running s) c.in-Load.b + c.in-Load.n)) (λ v. goes (wrote (running s) c.in-Load.a v ∷ waiting s) m.memory.bytes ports)) (sym given)) refl
           (λ ps. left ps ∙ ap (λ a. after (world_of m ps) (running s) (trips (by_engine 2 a))) c.address-address.ensures);
       rule = refl;
       base = refl;
@@ -641,7 +641,7 @@ returns-else-store g c =
     let pass : fits at w ≡ false = sym (c.if-store.ensures.answer ∙ ap (λ a. fits a w) address) in
     let kept : c.store.new.self.bytes ≡ m.memory.bytes = stored-as ∙ cond-false (fits at w) _ _ pass in
     record {
-      step = tripped-here bs rule m ports c.requires.running c.requires.able x e c.trip-else-store.new.self _ _ (cond-false (fits at w) _ _ pass) refl
+      step = tripped_here bs rule m ports c.requires.running c.requires.able x e c.trip-else-store.new.self _ _ (cond-false (fits at w) _ _ pass) refl
           (λ ps. c.trip-else-store.ensures ps
           ∙ (λ i. world (tripped (trip_at (by_engine 2 (address i)) (running s))) (levels_in m.state s) (kept i) ps));
       rule = refl;
@@ -766,7 +766,7 @@ returns-in-Err g c =
     let x : Instr = Get c.in-Get.a c.in-Get.c in
     let e = standing bs s c.routine-routine.result c.pc-pc.result x (sym (ap Some c.in-Get.is) ∙ c.in-Some.ensures) c.routine-routine.ensures c.pc-pc.ensures in
     record {
-      step = tripped-here bs rule m ports c.requires.running c.requires.able x e _ _ _ (ap (λ r. or_refused r c.in-Get.c (λ v. goes (wrote (running s) c.in-Get.a v ∷ waiting s) m.memory.bytes ports)) (sym c.in-Err.ensures.answer)) refl c.trip-in-Err.ensures;
+      step = tripped_here bs rule m ports c.requires.running c.requires.able x e _ _ _ (ap (λ r. or_refused r c.in-Get.c (λ v. goes (wrote (running s) c.in-Get.a v ∷ waiting s) m.memory.bytes ports)) (sym c.in-Err.ensures.answer)) refl c.trip-in-Err.ensures;
       rule = refl;
       base = refl;
     }
@@ -810,7 +810,7 @@ returns-in-Err-write g c =
     let left : g.H.Host.ports c.write-in-Put.new.self ≡ written ports c.in-Put.c (value (running s) c.in-Put.b) =
     c.in-Err-write.ensures.ports ∙ ap (written ports c.in-Put.c) c.read-in-Put.ensures in
     record {
-      step = tripped-here bs rule m ports c.requires.running c.requires.able x e _ _ _ (ap (λ r. or_refused r c.in-Put.c (λ _. goes (onward (running s) (running s).registers ∷ waiting s) m.memory.bytes (written ports c.in-Put.c (value (running s) c.in-Put.b)))) (sym said)) (left ∙ refused-written ports c.in-Put.c (value (running s) c.in-Put.b) _ (sym said)) c.trip-in-Err-write.ensures;
+      step = tripped_here bs rule m ports c.requires.running c.requires.able x e _ _ _ (ap (λ r. or_refused r c.in-Put.c (λ _. goes (onward (running s) (running s).registers ∷ waiting s) m.memory.bytes (written ports c.in-Put.c (value (running s) c.in-Put.b)))) (sym said)) (left ∙ refused_written ports c.in-Put.c (value (running s) c.in-Put.b) _ (sym said)) c.trip-in-Err-write.ensures;
       rule = c.in-Err-write.ensures.rule;
       base = c.in-Err-write.ensures.base;
     }

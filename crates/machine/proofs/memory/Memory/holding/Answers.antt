@@ -1,5 +1,5 @@
 use Rattle.std.proofs.Common.{get_or, set, ap, ◌∙◌, arith, length-set}
-use Rattle.machine.proofs.Firsts.{filled_more, filled-all}
+use Rattle.machine.proofs.Firsts.{filled_more, filled_all}
 use Rattle.machine.proofs.memory.Memory.holding.Goals as goal
 
 pub loop-k-preserved : goal.loop-k-preserved
@@ -11,4 +11,4 @@ loop-k-preserved c =
     )
 
 pub returns : goal.returns
-returns c = c.loop-k.invariant.0 ∙ filled-all c.args.image.now c.loop-k.k 4096 (omega arith)
+returns c = c.loop-k.invariant.0 ∙ filled_all c.args.image.now c.loop-k.k 4096 (omega arith)

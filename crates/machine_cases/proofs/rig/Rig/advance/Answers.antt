@@ -1,6 +1,6 @@
 use Rattle.std.proofs.Common.{[], sym}
 use Rattle.module.specs.Told.{bytes_of}
-use Rattle.machine.proofs.Runs.{any-ports, has-step, stays-sound}
+use Rattle.machine.proofs.Runs.{any_ports, has_step, stays_sound}
 use Rattle.machine.proofs.Soundness.{never_stuck}
 use Rattle.machine_cases.proofs.rig.Rig.advance.Goals as goal
 
@@ -9,7 +9,7 @@ step-requires g c =
     let rig = c.args.self.now in
     let bs = bytes_of rig.checked.opened in
     let run = sym c.in-Running.ensures.state in
-    record { running = run; able = has-step bs (never_stuck bs rig.checked.keeps) rig.machine [] rig.sound run }
+    record { running = run; able = has_step bs (never_stuck bs rig.checked.keeps) rig.machine [] rig.sound run }
 
 pub invariant_of-self : goal.invariant_of-self
 invariant_of-self g c =
@@ -17,7 +17,7 @@ invariant_of-self g c =
     let bs = bytes_of rig.checked.opened in
     let never = never_stuck bs rig.checked.keeps in
     let ports = g.H.Host.ports c.args.host.now in
-    let before = any-ports bs rig.machine [] ports rig.sound in
+    let before = any_ports bs rig.machine [] ports rig.sound in
     let run = sym c.in-Running.ensures.state in
-    let after = stays-sound bs never rig.machine ports before _ c.step.new.self _ run c.step.ensures.step in
-    record { sound = any-ports bs c.step.new.self _ [] after }
+    let after = stays_sound bs never rig.machine ports before _ c.step.new.self _ run c.step.ensures.step in
+    record { sound = any_ports bs c.step.new.self _ [] after }

@@ -1,8 +1,8 @@
 use Rattle.std.proofs.Common.{◌≡◌, ◌+◌, ◌-◌, ◌<◌, length, take, drop, Some, None, sym, ap, ◌∙◌, add-one, arith}
 use Rattle.module.specs.Layout.{routines, count, before}
 use Rattle.module.specs.Rules.{holds}
-use Rattle.module.proofs.Firsts.{first-in, place-step}
-use Rattle.module.proofs.Passes.{rows-before-long, rows-part}
+use Rattle.module.proofs.Firsts.{first_in, place_step}
+use Rattle.module.proofs.Passes.{rows_before_long, rows_part}
 use Rattle.module.proofs.opened.Opened.breach.Goals as goal
 use Rattle.module.proofs.opened.Opened.breach.Goals.{After-count}
 
@@ -13,7 +13,7 @@ pub slice_bounds-breach_in-end : goal.slice_bounds-breach_in-end
 slice_bounds-breach_in-end c =
     let bs = c.args.self.now.bytes.now in
     let entry = c.requires.sound.laid.entry c.loop-routine.routine (within c) in
-    let long : length c.args.rows.now ≡ before bs (routines bs) = ap length c.requires.filled ∙ rows-before-long bs (routines bs) in
+    let long : length c.args.rows.now ≡ before bs (routines bs) = ap length c.requires.filled ∙ rows_before_long bs (routines bs) in
     omega (arith, entry.inside, long, c.loop-routine.invariant.0, c.count.ensures)
 
 pub breach_in-requires : goal.breach_in-requires
@@ -26,7 +26,7 @@ breach_in-requires c =
       sound = c.requires.sound;
       ready = c.requires.ready;
       routine = lt;
-      filled = (λ i. take (k i) (drop (c.loop-routine.invariant.0 i) (c.requires.filled i))) ∙ rows-part bs (routines bs) r lt;
+      filled = (λ i. take (k i) (drop (c.loop-routine.invariant.0 i) (c.requires.filled i))) ∙ rows_part bs (routines bs) r lt;
     }
 
 pub overflow_cast-result-in-Some : goal.overflow_cast-result-in-Some
@@ -35,14 +35,14 @@ overflow_cast-result-in-Some c =
     let r = c.loop-routine.routine in
     let lt = within (goal.at.overflow_cast-result-in-Some c).After-count in
     let entry = c.requires.sound.laid.entry r lt in
-    omega (arith, first-in (holds c.args.rule bs r) (count bs r) 0 c.in-Some.i (sym c.in-Some.ensures), entry.inside, c.requires.sound.laid.short)
+    omega (arith, first_in (holds c.args.rule bs r) (count bs r) 0 c.in-Some.i (sym c.in-Some.ensures), entry.inside, c.requires.sound.laid.short)
 
 pub returns-in-Some : goal.returns-in-Some
 returns-in-Some c =
     let bs = c.args.self.now.bytes.now in
     let r = c.loop-routine.routine in
     let lt = within (goal.at.returns-in-Some c).After-count in
-    sym (place-step (holds c.args.rule bs) (count bs) (routines bs) r (Some c.in-Some.i) lt c.in-Some.ensures) ∙ c.loop-routine.invariant.1
+    sym (place_step (holds c.args.rule bs) (count bs) (routines bs) r (Some c.in-Some.i) lt c.in-Some.ensures) ∙ c.loop-routine.invariant.1
 
 pub loop-routine-preserved : goal.loop-routine-preserved
 loop-routine-preserved c =
@@ -50,5 +50,5 @@ loop-routine-preserved c =
     let r = c.loop-routine.routine in
     let lt = within (goal.at.loop-routine-preserved c).After-count in (
       omega (arith, ap (before bs) (add-one r), c.loop-routine.invariant.0, c.count.ensures),
-      sym (place-step (holds c.args.rule bs) (count bs) (routines bs) r None lt c.in_default.ensures) ∙ c.loop-routine.invariant.1,
+      sym (place_step (holds c.args.rule bs) (count bs) (routines bs) r None lt c.in_default.ensures) ∙ c.loop-routine.invariant.1,
     )

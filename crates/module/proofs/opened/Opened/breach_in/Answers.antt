@@ -2,7 +2,7 @@ use Rattle.std.proofs.Common.{◌≡◌, ◌-◌, ◌<◌, sym, ap, ◌∙◌, a
 use Rattle.module.specs.First.{first_failing}
 use Rattle.module.specs.Layout.{count}
 use Rattle.module.specs.Rules.{holds}
-use Rattle.module.proofs.Firsts.{first_more, first-stop}
+use Rattle.module.proofs.Firsts.{first_more, first_stop}
 use Rattle.module.proofs.Lookup.{rows_long}
 use Rattle.module.proofs.opened.Opened.breach_in.Goals as goal
 
@@ -17,7 +17,7 @@ returns-then-not-keeps c =
     let r = c.args.routine in
     let i = c.loop-i.i in
     let lt : i < count bs r = omega (arith, c.loop-i-test.true, rows_long bs r c.args.rows.now c.requires.filled) in
-    sym (first-stop (holds c.args.rule bs r) (count bs r) i lt (sym c.if-not-keeps.ensures)) ∙ c.loop-i.invariant
+    sym (first_stop (holds c.args.rule bs r) (count bs r) i lt (sym c.if-not-keeps.ensures)) ∙ c.loop-i.invariant
 
 pub loop-i-preserved : goal.loop-i-preserved
 loop-i-preserved c =

@@ -3,7 +3,7 @@ use Rattle.module.specs.Bytes.{Octets}
 use Rattle.module.specs.Rules.{rules as the_rules}
 use Rattle.module.specs.Told.{bytes_of}
 use Rattle.module.specs.Verdict.{tried}
-use Rattle.module.proofs.Accepts.{accepts-by}
+use Rattle.module.proofs.Accepts.{accepts_by}
 use Rattle.module.proofs.Opens.{sound}
 use Rattle.module.proofs.opened.Opened.check.Goals as goal
 
@@ -26,5 +26,5 @@ returns c =
     record {
       verdict = search rules;
       sheet = search rules;
-      accepts = accepts-by c.judge.result bs (c.judge.ensures.verdict ∙ ap (tried the_rules) shows) (ap is_ok (sym opened.verdict)) (subst Octets shows opened.octets);
+      accepts = accepts_by c.judge.result bs (c.judge.ensures.verdict ∙ ap (tried the_rules) shows) (ap is_ok (sym opened.verdict)) (subst Octets shows opened.octets);
     }

@@ -3,7 +3,7 @@ use Rattle.std.proofs.lemmas.List.FromFn.{fill_by_all}
 use Rattle.module.specs.Layout.{count}
 use Rattle.module.specs.Shape.{after, shape, row_of, sheet_row}
 use Rattle.module.specs.Verdict.{blank}
-use Rattle.module.proofs.Depths.{depth-grows}
+use Rattle.module.proofs.Depths.{depth_grows}
 use Rattle.module.proofs.ShapeRows.{entered, shape_row}
 use Rattle.module.proofs.opened.Opened.fill_routine.Goals as goal
 
@@ -16,7 +16,7 @@ after-shape-requires c =
     let ok = c.requires.sound.laid in
     let r = c.args.routine in
     let e = ok.entry r c.requires.index in
-    omega (arith, ap (λ g. g.depth) c.loop-i.invariant.0, depth-grows ok r c.requires.index c.loop-i.i, ok.short, e.inside, c.requires.room)
+    omega (arith, ap (λ g. g.depth) c.loop-i.invariant.0, depth_grows ok r c.requires.index c.loop-i.i, ok.short, e.inside, c.requires.room)
 
 pub loop-i-preserved : goal.loop-i-preserved
 loop-i-preserved c =

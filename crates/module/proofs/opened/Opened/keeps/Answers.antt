@@ -1,7 +1,7 @@
 use Rattle.std.proofs.Common.{◌<◌, sym, ap, ◌∙◌, arith}
 use Rattle.module.specs.declared.rule.Rule.TheVariants.{Stack, Callee}
 use Rattle.module.specs.Rules.{holds, number}
-use Rattle.module.proofs.Keeps.{here-is, calls-here, shallow, stack-kept, registers-kept, constants-kept, target-kept, ending-kept}
+use Rattle.module.proofs.Keeps.{here_is, calls_here, shallow, stack_kept, registers_kept, constants_kept, target_kept, ending_kept}
 use Rattle.module.proofs.Lookup.{rows_long}
 use Rattle.module.proofs.opened.Opened.keeps.Goals as goal
 
@@ -15,22 +15,22 @@ pub access-requires : goal.access-requires
 access-requires c =
     let w = c.requires.within in
     let late : number Callee < number c.args.rule = omega (arith, ap number c.in-Registers.is) in
-    record { sound = w.sound; index = w.routine; calls = calls-here _ _ _ _ w _ c.requires.index _ c.in-Some.ensures late }
+    record { sound = w.sound; index = w.routine; calls = calls_here _ _ _ _ w _ c.requires.index _ c.in-Some.ensures late }
 
 pub access-requires-in-Constants : goal.access-requires-in-Constants
 access-requires-in-Constants c =
     let w = c.requires.within in
     let late : number Callee < number c.args.rule = omega (arith, ap number c.in-Constants.is) in
-    record { sound = w.sound; index = w.routine; calls = calls-here _ _ _ _ w _ c.requires.index _ c.in-Some.ensures late }
+    record { sound = w.sound; index = w.routine; calls = calls_here _ _ _ _ w _ c.requires.index _ c.in-Some.ensures late }
 
 pub returns-in-Stack : goal.returns-in-Stack
 returns-in-Stack c =
-    stack-kept _ _ _ _ c.requires.within _ c.requires.index _ c.in-Some.ensures _ c.stack_holds.ensures
+    stack_kept _ _ _ _ c.requires.within _ c.requires.index _ c.in-Some.ensures _ c.stack_holds.ensures
     ∙ ap (λ q. holds q c.args.self.now.bytes.now c.args.routine c.args.i) (sym c.in-Stack.is)
 
 pub returns-in-Registers : goal.returns-in-Registers
 returns-in-Registers c =
-    registers-kept _ _ _ _ c.requires.within _ c.requires.index _ c.in-Some.ensures _ _ c.access.ensures c.registers_hold.ensures
+    registers_kept _ _ _ _ c.requires.within _ c.requires.index _ c.in-Some.ensures _ _ c.access.ensures c.registers_hold.ensures
     ∙ ap (λ q. holds q c.args.self.now.bytes.now c.args.routine c.args.i) (sym c.in-Registers.is)
 
 pub returns-in-Constants : goal.returns-in-Constants
@@ -38,8 +38,8 @@ returns-in-Constants c =
     let w = c.requires.within in
     let late : number Stack < number c.args.rule = omega (arith, ap number c.in-Constants.is) in
     let deep = shallow _ _ _ _ w _ c.requires.index _ c.in-Some.ensures late c.args.i c.requires.index in
-    let row = here-is _ _ _ _ w _ c.requires.index _ c.in-Some.ensures in
-    constants-kept _ _ _ _ w _ c.requires.index _ c.in-Some.ensures _ _ c.access-in-Constants.ensures (c.constants_hold.ensures _ row deep)
+    let row = here_is _ _ _ _ w _ c.requires.index _ c.in-Some.ensures in
+    constants_kept _ _ _ _ w _ c.requires.index _ c.in-Some.ensures _ _ c.access-in-Constants.ensures (c.constants_hold.ensures _ row deep)
     ∙ ap (λ q. holds q c.args.self.now.bytes.now c.args.routine c.args.i) (sym c.in-Constants.is)
 
 pub returns-in-Target : goal.returns-in-Target
@@ -47,12 +47,12 @@ returns-in-Target c =
     let w = c.requires.within in
     let late : number Stack < number c.args.rule = omega (arith, ap number c.in-Target.is) in
     let deep = shallow _ _ _ _ w _ c.requires.index _ c.in-Some.ensures late in
-    let row = here-is _ _ _ _ w _ c.requires.index _ c.in-Some.ensures in
-    target-kept _ _ _ _ w _ c.requires.index _ c.in-Some.ensures _
+    let row = here_is _ _ _ _ w _ c.requires.index _ c.in-Some.ensures in
+    target_kept _ _ _ _ w _ c.requires.index _ c.in-Some.ensures _
     (c.target_holds.ensures c.args.self.now.bytes.now c.args.routine _ w.filled row (deep c.args.i c.requires.index) deep)
     ∙ ap (λ q. holds q c.args.self.now.bytes.now c.args.routine c.args.i) (sym c.in-Target.is)
 
 pub returns-in-Ending : goal.returns-in-Ending
 returns-in-Ending c =
-    ending-kept _ _ _ _ c.requires.within _ c.requires.index _ c.in-Some.ensures _ c.ending_holds.ensures
+    ending_kept _ _ _ _ c.requires.within _ c.requires.index _ c.in-Some.ensures _ c.ending_holds.ensures
     ∙ ap (λ q. holds q c.args.self.now.bytes.now c.args.routine c.args.i) (sym c.in-Ending.is)

@@ -1,5 +1,5 @@
-use Rattle.module.proofs.ShapeRows.{variable-added}
+use Rattle.module.proofs.ShapeRows.{variable_added}
 use Rattle.module.proofs.shape.ShapeRow.with_variable.Goals as goal
 
 pub returns : goal.returns
-returns c = λ s e. variable-added c.args.self s e
+returns c = λ s e. variable_added c.args.self s e
