@@ -1,5 +1,5 @@
 -- Lists of faults, the oldest first, and what becomes of them.
-use Rattle.std.specs.Prelude.{◌≡◌, ℕ, ◌-◌, ◌<◌, Bool, true, cond, not, ◌&&◌, List, [], ◌∷◌, map, length, get_or, drop, Some, None, filter, Option, nat_lt, slice_index_or}
+use Rattle.std.specs.Prelude.{◌≡◌, ℕ, ◌-◌, ◌<◌, Bool, true, cond, not, ◌&&◌, List, [], ◌∷◌, map, length, drop, Some, None, filter, Option, nat_lt, slice_index_or}
 use Rattle.faults.specs.Faults.{FaultValues, marked, is_marked, no_fault}
 
 -- the most faults that are kept
@@ -20,7 +20,7 @@ fault_at faults i = cond (nat_lt i (length faults)) (Some (slice_index_or faults
 
 -- no marked fault stands after one without a mark
 abbrev pub MarkedFirst : List FaultValues → Type 0
-MarkedFirst faults = (i j : ℕ) → i < j → j < length faults → (get_or faults j no_fault).mark ≡ 1 → (get_or faults i no_fault).mark ≡ 1
+MarkedFirst faults = (i j : ℕ) → i < j → j < length faults → (slice_index_or faults j no_fault).mark ≡ 1 → (slice_index_or faults i no_fault).mark ≡ 1
 
 abbrev pub none_marked : List FaultValues → Bool
 none_marked [] = true

@@ -1,5 +1,5 @@
 -- Ports, and what a read, a write and a rest make of them.
-use Rattle.std.specs.Prelude.{ℕ, Bool, cond, ◌&&◌, List, map, length, get_or, Some, None, Ok, Err, Option, Result, nat_le, nat_lt, slice_index_or, slice_set}
+use Rattle.std.specs.Prelude.{ℕ, Bool, cond, ◌&&◌, List, map, length, Some, None, Ok, Err, Option, Result, nat_le, nat_lt, slice_index_or, slice_set}
 use Rattle.refusal.specs.Values.{Values}
 use Rattle.host.specs.declared.port.Flag.{Flag}
 use Rattle.host.specs.declared.port.Flag.TheVariants.{Order, Sense}
@@ -28,7 +28,7 @@ if_ok (Ok a) x y = x
 if_ok (Err e) x y = y
 
 abbrev pub value_at : List Port → ℕ → ℕ
-value_at ports p = (get_or ports p blank).value
+value_at ports p = (slice_index_or ports p blank).value
 
 -- what a read of port p answers
 abbrev pub reading : List Port → ℕ → Result ℕ Values

@@ -1,5 +1,5 @@
 -- The seven rules of check, each as a test of instruction i of routine r.
-use Rattle.std.specs.Prelude.{ℕ, ◌+◌, Bool, true, false, not, ◌&&◌, ◌||◌, ltb, List, [], ◌∷◌, length, take, drop, Some, None, Option, ◌==◌, nat_le, nat_lt}
+use Rattle.std.specs.Prelude.{ℕ, ◌+◌, Bool, true, false, not, ◌&&◌, ◌||◌, List, [], ◌∷◌, length, take, drop, Some, None, Option, ◌==◌, nat_le, nat_lt}
 use Rattle.isa.specs.declared.access.Access.{Access}
 use Rattle.isa.specs.declared.access.Signature.{Signature}
 use Rattle.isa.specs.declared.access.Span.{Span}
@@ -34,7 +34,7 @@ stacks depth Tick = true
 
 -- CALL names a routine that there is.
 abbrev pub calls : List ℕ → Instr → Bool
-calls bs x = passes (λ n. ltb n (routines bs)) (callee x)
+calls bs x = passes (λ n. nat_lt n (routines bs)) (callee x)
 
 abbrev pub callee_signature : List ℕ → Option ℕ → Signature
 callee_signature bs None = record { arguments = 0; results = 0 }

@@ -52,7 +52,7 @@ read_as Unsigned w = pos w
 read_as TowardsZero w = signed w
 read_as Downwards w = signed w
 
--- quotZ rounds towards zero
+-- int_div rounds towards zero
 abbrev pub quotient_of : Kind → ℤ → ℤ → ℤ
 quotient_of Unsigned x y = downwards x y
 quotient_of TowardsZero x y = int_div x y
