@@ -11,7 +11,7 @@ pub const ACCEPTED: Answer = (0, 0, 0, 0);
 fn values(refusal: Refusal) -> Answer {
     (
         refusal.number(),
-        refusal.layer(),
+        u8::from(refusal.layer()),
         refusal.routine(),
         refusal.instruction(),
     )

@@ -30,6 +30,9 @@ names_c op = within 5 17 op || within 24 25 op
 abbrev pub names_n : ℕ → Bool
 names_n op = op == 1 || (within 8 9 op || within 16 22 op)
 
+abbrev pub is_kind : ℕ → Bool
+is_kind n = nat_le n 2
+
 abbrev pub is_width : ℕ → Bool
 is_width c = c == 1 || (c == 2 || c == 4)
 
@@ -42,7 +45,7 @@ well_formed r =
     && ((names_b r.op || r.b == 0)
     && ((names_c r.op || r.c == 0)
     && ((names_n r.op || r.n == 0)
-    && ((not (within 8 9 r.op) || nat_le r.n 2)
+    && ((not (within 8 9 r.op) || is_kind r.n)
     && (not (within 16 17 r.op) || is_width r.c))))))
 
 abbrev pub opcode : Operation → ℕ

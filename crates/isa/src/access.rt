@@ -100,9 +100,6 @@ impl Instr {
     pub fn ends(self) -> bool
         ensures { result ≡ ends self }
     {
-        match self {
-            Instr::Bal { .. } | Instr::Ret { .. } => true,
-            _ => false,
-        }
+        matches!(self, Instr::Bal { .. } | Instr::Ret { .. })
     }
 }

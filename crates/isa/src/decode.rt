@@ -1,67 +1,142 @@
 ghost use Rattle.std.specs.Prelude.{◌≡◌};
-ghost use Rattle.isa.specs.Form.{decoded, operation, part, kind, width, test};
+ghost use Rattle.isa.specs.Form.{decoded, is_kind, is_width, operation, part, kind, width, test};
+ghost use Rattle.isa.specs.Codes.{formed_if, is_operation, is_part, is_test, of_row};
 
 use crate::instr::{Instr, Kind, Operation, Part, Test, Width};
-use crate::row::Row;
+use crate::row::{Malformed, Row};
 
-// Of an opcode 5 to 7 or 10 to 15.
-fn operation_of(op: u8) -> Operation
-    ensures { result ≡ operation op }
-{
-    match op {
-        5 => Operation::Add,
-        6 => Operation::Sub,
-        7 => Operation::Mul,
-        10 => Operation::And,
-        11 => Operation::Or,
-        12 => Operation::Xor,
-        13 => Operation::Sl,
-        14 => Operation::Srl,
-        _ => Operation::Sra,
+impl TryFrom<u8> for Operation {
+    type Error = Malformed;
+
+    ghost try_from_gives = { λ op r. r ≡ formed_if (is_operation op) (operation op) };
+
+    fn try_from(op: u8) -> Result<Operation, Malformed> {
+        match op {
+            5 => Ok(Operation::Add),
+            6 => Ok(Operation::Sub),
+            7 => Ok(Operation::Mul),
+            10 => Ok(Operation::And),
+            11 => Ok(Operation::Or),
+            12 => Ok(Operation::Xor),
+            13 => Ok(Operation::Sl),
+            14 => Ok(Operation::Srl),
+            15 => Ok(Operation::Sra),
+            _ => Err(Malformed),
+        }
     }
 }
 
-// Of opcode 8 or 9.
-fn part_of(op: u8) -> Part
-    ensures { result ≡ part op }
-{
-    if op == 8 {
-        Part::Quotient
-    } else {
-        Part::Remainder
+impl TryFrom<u8> for Part {
+    type Error = Malformed;
+
+    ghost try_from_gives = { λ op r. r ≡ formed_if (is_part op) (part op) };
+
+    fn try_from(op: u8) -> Result<Part, Malformed> {
+        match op {
+            8 => Ok(Part::Quotient),
+            9 => Ok(Part::Remainder),
+            _ => Err(Malformed),
+        }
     }
 }
 
-// Of a number 0 to 2.
-fn kind_of(n: u32) -> Kind
-    ensures { result ≡ kind n }
-{
-    match n {
-        0 => Kind::Unsigned,
-        1 => Kind::TowardsZero,
-        _ => Kind::Downwards,
+impl TryFrom<u32> for Kind {
+    type Error = Malformed;
+
+    ghost try_from_gives = { λ n r. r ≡ formed_if (is_kind n) (kind n) };
+
+    fn try_from(n: u32) -> Result<Kind, Malformed> {
+        match n {
+            0 => Ok(Kind::Unsigned),
+            1 => Ok(Kind::TowardsZero),
+            2 => Ok(Kind::Downwards),
+            _ => Err(Malformed),
+        }
     }
 }
 
-// Of a number 1, 2 or 4.
-fn width_of(c: u8) -> Width
-    ensures { result ≡ width c }
-{
-    match c {
-        1 => Width::One,
-        2 => Width::Two,
-        _ => Width::Four,
+impl TryFrom<u8> for Width {
+    type Error = Malformed;
+
+    ghost try_from_gives = { λ c r. r ≡ formed_if (is_width c) (width c) };
+
+    fn try_from(c: u8) -> Result<Width, Malformed> {
+        match c {
+            1 => Ok(Width::One),
+            2 => Ok(Width::Two),
+            4 => Ok(Width::Four),
+            _ => Err(Malformed),
+        }
     }
 }
 
-// Of an opcode 19 to 21.
-fn test_of(op: u8) -> Test
-    ensures { result ≡ test op }
-{
-    match op {
-        19 => Test::Equal,
-        20 => Test::Less,
-        _ => Test::LessSigned,
+impl TryFrom<u8> for Test {
+    type Error = Malformed;
+
+    ghost try_from_gives = { λ op r. r ≡ formed_if (is_test op) (test op) };
+
+    fn try_from(op: u8) -> Result<Test, Malformed> {
+        match op {
+            19 => Ok(Test::Equal),
+            20 => Ok(Test::Less),
+            21 => Ok(Test::LessSigned),
+            _ => Err(Malformed),
+        }
+    }
+}
+
+impl TryFrom<Row> for Instr {
+    type Error = Malformed;
+
+    ghost try_from_gives = { λ row r. r ≡ of_row row };
+
+    fn try_from(row: Row) -> Result<Instr, Malformed> {
+        let Row { op, a, b, c, n } = row;
+        match op {
+            0 if a == 0 && b == 0 && c == 0 && n == 0 => Ok(Instr::New),
+            1 if a == 0 && b == 0 && c == 0 => Ok(Instr::Def { n }),
+            2 if a == 0 && b == 0 && c == 0 && n == 0 => Ok(Instr::Kill),
+            3 if c == 0 && n == 0 => Ok(Instr::Mov { a, b }),
+            4 if c == 0 && n == 0 => Ok(Instr::Swap { a, b }),
+            5..=7 | 10..=15 if n == 0 => Ok(Instr::Calc {
+                operation: Operation::try_from(op)?,
+                a,
+                b,
+                c,
+            }),
+            8..=9 if n <= 2 => Ok(Instr::Divide {
+                part: Part::try_from(op)?,
+                kind: Kind::try_from(n)?,
+                a,
+                b,
+                c,
+            }),
+            16 if c == 1 || c == 2 || c == 4 => Ok(Instr::Load {
+                width: Width::try_from(c)?,
+                a,
+                b,
+                n,
+            }),
+            17 if c == 1 || c == 2 || c == 4 => Ok(Instr::Store {
+                width: Width::try_from(c)?,
+                a,
+                b,
+                n,
+            }),
+            18 if a == 0 && b == 0 && c == 0 => Ok(Instr::Bal { n }),
+            19..=21 if c == 0 => Ok(Instr::Branch {
+                test: Test::try_from(op)?,
+                a,
+                b,
+                n,
+            }),
+            22 if c == 0 => Ok(Instr::Call { a, b, n }),
+            23 if b == 0 && c == 0 && n == 0 => Ok(Instr::Ret { a }),
+            24 if b == 0 && n == 0 => Ok(Instr::Get { a, c }),
+            25 if a == 0 && n == 0 => Ok(Instr::Put { b, c }),
+            26 if a == 0 && b == 0 && c == 0 && n == 0 => Ok(Instr::Tick),
+            _ => Err(Malformed),
+        }
     }
 }
 
@@ -69,50 +144,5 @@ fn test_of(op: u8) -> Test
 pub fn decode(row: Row) -> Option<Instr>
     ensures { result ≡ decoded row }
 {
-    let Row { op, a, b, c, n } = row;
-    match op {
-        0 if a == 0 && b == 0 && c == 0 && n == 0 => Some(Instr::New),
-        1 if a == 0 && b == 0 && c == 0 => Some(Instr::Def { n }),
-        2 if a == 0 && b == 0 && c == 0 && n == 0 => Some(Instr::Kill),
-        3 if c == 0 && n == 0 => Some(Instr::Mov { a, b }),
-        4 if c == 0 && n == 0 => Some(Instr::Swap { a, b }),
-        5..=7 | 10..=15 if n == 0 => Some(Instr::Calc {
-            operation: operation_of(op),
-            a,
-            b,
-            c,
-        }),
-        8..=9 if n <= 2 => Some(Instr::Divide {
-            part: part_of(op),
-            kind: kind_of(n),
-            a,
-            b,
-            c,
-        }),
-        16 if c == 1 || c == 2 || c == 4 => Some(Instr::Load {
-            width: width_of(c),
-            a,
-            b,
-            n,
-        }),
-        17 if c == 1 || c == 2 || c == 4 => Some(Instr::Store {
-            width: width_of(c),
-            a,
-            b,
-            n,
-        }),
-        18 if a == 0 && b == 0 && c == 0 => Some(Instr::Bal { n }),
-        19..=21 if c == 0 => Some(Instr::Branch {
-            test: test_of(op),
-            a,
-            b,
-            n,
-        }),
-        22 if c == 0 => Some(Instr::Call { a, b, n }),
-        23 if b == 0 && c == 0 && n == 0 => Some(Instr::Ret { a }),
-        24 if b == 0 && n == 0 => Some(Instr::Get { a, c }),
-        25 if a == 0 && n == 0 => Some(Instr::Put { b, c }),
-        26 if a == 0 && b == 0 && c == 0 && n == 0 => Some(Instr::Tick),
-        _ => None,
-    }
+    Instr::try_from(row).ok()
 }

@@ -4,11 +4,11 @@ ghost use Rattle.isa.specs.Form.{decoded, row, encoded, opcode, part_code, kind_
 use crate::instr::{Instr, Kind, Operation, Part, Test, Width};
 use crate::row::Row;
 
-impl Operation {
-    fn op(self) -> u8
-        ensures { result ≡ opcode self }
-    {
-        match self {
+impl From<Operation> for u8 {
+    ghost from_gives = { λ operation op. op ≡ opcode operation };
+
+    fn from(operation: Operation) -> u8 {
+        match operation {
             Operation::Add => 5,
             Operation::Sub => 6,
             Operation::Mul => 7,
@@ -22,22 +22,22 @@ impl Operation {
     }
 }
 
-impl Part {
-    fn op(self) -> u8
-        ensures { result ≡ part_code self }
-    {
-        match self {
+impl From<Part> for u8 {
+    ghost from_gives = { λ part op. op ≡ part_code part };
+
+    fn from(part: Part) -> u8 {
+        match part {
             Part::Quotient => 8,
             Part::Remainder => 9,
         }
     }
 }
 
-impl Kind {
-    fn number(self) -> u32
-        ensures { result ≡ kind_number self }
-    {
-        match self {
+impl From<Kind> for u32 {
+    ghost from_gives = { λ kind n. n ≡ kind_number kind };
+
+    fn from(kind: Kind) -> u32 {
+        match kind {
             Kind::Unsigned => 0,
             Kind::TowardsZero => 1,
             Kind::Downwards => 2,
@@ -45,11 +45,12 @@ impl Kind {
     }
 }
 
-impl Width {
-    fn number(self) -> u8
-        ensures { result ≡ bytes self }
-    {
-        match self {
+/// How many bytes there are.
+impl From<Width> for u8 {
+    ghost from_gives = { λ width n. n ≡ bytes width };
+
+    fn from(width: Width) -> u8 {
+        match width {
             Width::One => 1,
             Width::Two => 2,
             Width::Four => 4,
@@ -57,11 +58,11 @@ impl Width {
     }
 }
 
-impl Test {
-    fn op(self) -> u8
-        ensures { result ≡ test_code self }
-    {
-        match self {
+impl From<Test> for u8 {
+    ghost from_gives = { λ test op. op ≡ test_code test };
+
+    fn from(test: Test) -> u8 {
+        match test {
             Test::Equal => 19,
             Test::Less => 20,
             Test::LessSigned => 21,
@@ -69,38 +70,77 @@ impl Test {
     }
 }
 
-fn row_with(op: u8, a: u8, b: u8, c: u8, n: u32) -> Row
-    ensures { result ≡ row op a b c n }
+// The row of an opcode, with no field named.
+fn bare(op: u8) -> Row
+    ensures { result ≡ row op 0 0 0 0 }
 {
-    Row { op, a, b, c, n }
+    Row {
+        op,
+        ..Row::default()
+    }
 }
 
-fn fields(instr: Instr) -> Row
-    ensures { result ≡ encoded instr }
-{
-    match instr {
-        Instr::New => row_with(0, 0, 0, 0, 0),
-        Instr::Def { n } => row_with(1, 0, 0, 0, n),
-        Instr::Kill => row_with(2, 0, 0, 0, 0),
-        Instr::Mov { a, b } => row_with(3, a, b, 0, 0),
-        Instr::Swap { a, b } => row_with(4, a, b, 0, 0),
-        Instr::Calc { operation, a, b, c } => row_with(operation.op(), a, b, c, 0),
-        Instr::Divide {
-            part,
-            kind,
-            a,
-            b,
-            c,
-        } => row_with(part.op(), a, b, c, kind.number()),
-        Instr::Load { width, a, b, n } => row_with(16, a, b, width.number(), n),
-        Instr::Store { width, a, b, n } => row_with(17, a, b, width.number(), n),
-        Instr::Bal { n } => row_with(18, 0, 0, 0, n),
-        Instr::Branch { test, a, b, n } => row_with(test.op(), a, b, 0, n),
-        Instr::Call { a, b, n } => row_with(22, a, b, 0, n),
-        Instr::Ret { a } => row_with(23, a, 0, 0, 0),
-        Instr::Get { a, c } => row_with(24, a, 0, c, 0),
-        Instr::Put { b, c } => row_with(25, 0, b, c, 0),
-        Instr::Tick => row_with(26, 0, 0, 0, 0),
+impl From<Instr> for Row {
+    ghost from_gives = { λ instr row. row ≡ encoded instr };
+
+    fn from(instr: Instr) -> Row {
+        match instr {
+            Instr::New => bare(0),
+            Instr::Def { n } => Row { n, ..bare(1) },
+            Instr::Kill => bare(2),
+            Instr::Mov { a, b } => Row { a, b, ..bare(3) },
+            Instr::Swap { a, b } => Row { a, b, ..bare(4) },
+            Instr::Calc { operation, a, b, c } => Row {
+                a,
+                b,
+                c,
+                ..bare(operation.into())
+            },
+            Instr::Divide {
+                part,
+                kind,
+                a,
+                b,
+                c,
+            } => Row {
+                op: part.into(),
+                a,
+                b,
+                c,
+                n: kind.into(),
+            },
+            Instr::Load { width, a, b, n } => Row {
+                op: 16,
+                a,
+                b,
+                c: width.into(),
+                n,
+            },
+            Instr::Store { width, a, b, n } => Row {
+                op: 17,
+                a,
+                b,
+                c: width.into(),
+                n,
+            },
+            Instr::Bal { n } => Row { n, ..bare(18) },
+            Instr::Branch { test, a, b, n } => Row {
+                a,
+                b,
+                n,
+                ..bare(test.into())
+            },
+            Instr::Call { a, b, n } => Row {
+                a,
+                b,
+                n,
+                ..bare(22)
+            },
+            Instr::Ret { a } => Row { a, ..bare(23) },
+            Instr::Get { a, c } => Row { a, c, ..bare(24) },
+            Instr::Put { b, c } => Row { b, c, ..bare(25) },
+            Instr::Tick => bare(26),
+        }
     }
 }
 
@@ -110,5 +150,5 @@ pub fn encode(instr: Instr) -> Row
     ensures again { decoded result ≡ Some instr }
     ensures undoes { (x : Row) → decoded x ≡ Some instr → result ≡ x }
 {
-    fields(instr)
+    Row::from(instr)
 }

@@ -1,5 +1,8 @@
 -- The four numbers of a refusal, by which every promise speaks of it.
-use Rattle.std.specs.Prelude.{ℕ, Ok, Err, Result}
+use Rattle.std.specs.Prelude.{ℕ, Some, None, Ok, Err, Option, Result}
+use Rattle.refusal.specs.declared.Layer.{Layer}
+use Rattle.refusal.specs.declared.Layer.TheVariants.{Caller, Author, Engine, Host}
+use Rattle.refusal.specs.declared.Place.{Place}
 use Rattle.refusal.specs.declared.Refusal.{Refusal}
 use Rattle.refusal.specs.declared.Refusal.TheVariants.{Truncated, Counts, Entry, Length, Form, Stack, Callee, Register, Constant, Target, Ending, Sheet, Room, Fuel, Ended, Tripped, Running, Absent}
 
@@ -9,6 +12,17 @@ pub record Values : Type 0 where
   pub layer : ℕ
   pub routine : ℕ
   pub instruction : ℕ
+
+abbrev pub layer_number : Layer → ℕ
+layer_number Caller = 0
+layer_number Author = 1
+layer_number Engine = 2
+layer_number Host = 3
+
+-- the place 0 0 stands for none
+abbrev pub placed : Option Place → Place
+placed (Some place) = place
+placed None = record { routine = 0; instruction = 0 }
 
 -- a refusal that the module's author causes
 abbrev pub author : ℕ → ℕ → ℕ → Values

@@ -2,14 +2,44 @@
 
 #![tactic(auto)]
 
-ghost use Rattle.std.specs.Prelude.{◌≡◌};
-ghost use Rattle.refusal.specs.Values.{values_of};
+ghost use Rattle.std.specs.Prelude.{◌≡◌, Some};
+ghost use Rattle.refusal.specs.Values.{values_of, layer_number, placed};
+ghost use Rattle.refusal.specs.Text.{refused};
+
+use std::error::Error;
+use std::fmt;
 
 /// Where an instruction stands: its routine, and its number within the routine.
-#[derive(Clone, Copy, PartialEq, Eq, Debug)]
+#[derive(Clone, Copy, PartialEq, Eq, Debug, Default)]
 pub struct Place {
     pub routine: u16,
     pub instruction: u16,
+}
+
+/// Whose doing a refusal or a trip is.
+#[derive(Clone, Copy, PartialEq, Eq, Debug)]
+pub enum Layer {
+    /// 0: whoever makes the call.
+    Caller,
+    /// 1: the module's author.
+    Author,
+    /// 2: the engine.
+    Engine,
+    /// 3: the host.
+    Host,
+}
+
+impl From<Layer> for u8 {
+    ghost from_gives = { λ layer n. n ≡ layer_number layer };
+
+    fn from(layer: Layer) -> u8 {
+        match layer {
+            Layer::Caller => 0,
+            Layer::Author => 1,
+            Layer::Engine => 2,
+            Layer::Host => 3,
+        }
+    }
 }
 
 /// One case for each refusal, with the place where it has one.
@@ -80,38 +110,35 @@ impl Refusal {
         }
     }
 
-    /// Who causes it: 1 the module's author, 0 the caller.
-    pub fn layer(self) -> u8
-        ensures { result ≡ (values_of self).layer }
+    /// Who causes it: the module's author or the caller.
+    pub fn layer(self) -> Layer
+        ensures { layer_number result ≡ (values_of self).layer }
     {
         match self {
-            Refusal::Sheet | Refusal::Room | Refusal::Fuel | Refusal::Ended => 0,
-            Refusal::Tripped | Refusal::Running | Refusal::Absent => 0,
-            _ => 1,
+            Refusal::Sheet | Refusal::Room | Refusal::Fuel | Refusal::Ended => Layer::Caller,
+            Refusal::Tripped | Refusal::Running | Refusal::Absent => Layer::Caller,
+            _ => Layer::Author,
         }
     }
 
-    /// The place, which is 0 0 for a refusal without one.
-    fn place(self) -> Place
-        ensures routine { result.routine ≡ (values_of self).routine }
-        ensures instruction { result.instruction ≡ (values_of self).instruction }
+    /// The place, if it has one. A wrong entry has its routine, and instruction 0.
+    fn place(self) -> Option<Place>
+        ensures routine { (placed result).routine ≡ (values_of self).routine }
+        ensures instruction { (placed result).instruction ≡ (values_of self).instruction }
     {
         match self {
-            Refusal::Entry(routine) => Place {
+            Refusal::Entry(routine) => Some(Place {
                 routine,
-                instruction: 0,
-            },
+                ..Place::default()
+            }),
             Refusal::Form(place)
             | Refusal::Stack(place)
             | Refusal::Callee(place)
             | Refusal::Register(place)
             | Refusal::Constant(place)
             | Refusal::Target(place)
-            | Refusal::Ending(place) => place,
-            _ => Place {
-                routine: 0,
-                instruction: 0,
-            },
+            | Refusal::Ending(place) => Some(place),
+            _ => None,
         }
     }
 
@@ -119,13 +146,27 @@ impl Refusal {
     pub fn routine(self) -> u16
         ensures { result ≡ (values_of self).routine }
     {
-        self.place().routine
+        self.place().unwrap_or_default().routine
     }
 
     /// The instruction of its place, or 0.
     pub fn instruction(self) -> u16
         ensures { result ≡ (values_of self).instruction }
     {
-        self.place().instruction
+        self.place().unwrap_or_default().instruction
     }
 }
+
+/// As bench prints it: `refused`, the number, the routine and the instruction.
+impl fmt::Display for Refusal {
+    ghost output = { λ refusal. Some (refused (values_of refusal)) };
+
+    fn fmt<W: fmt::Write>(&self, f: &mut fmt::Formatter<W>) -> fmt::Result {
+        let number = self.number();
+        let routine = self.routine();
+        let instruction = self.instruction();
+        write!(f, "refused {number} {routine} {instruction}")
+    }
+}
+
+impl Error for Refusal {}

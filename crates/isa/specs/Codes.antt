@@ -1,0 +1,27 @@
+-- Which numbers stand for something in a row, and what a conversion answers.
+use Rattle.std.specs.Prelude.{ℕ, Bool, cond, ◌||◌, Ok, Err, Result}
+use Rattle.std.specs.Option.{ok_or}
+use Rattle.isa.specs.declared.instr.Instr.{Instr}
+use Rattle.isa.specs.declared.row.Malformed.{Malformed}
+use Rattle.isa.specs.declared.row.Row.{Row}
+use Rattle.isa.specs.Form.{within, decoded}
+
+abbrev pub malformed : Malformed
+malformed = record {}
+
+-- x if the test holds
+abbrev pub formed_if : {X : Type 0} → Bool → X → Result X Malformed
+formed_if test x = cond test (Ok x) (Err malformed)
+
+abbrev pub is_operation : ℕ → Bool
+is_operation op = within 5 7 op || within 10 15 op
+
+abbrev pub is_part : ℕ → Bool
+is_part op = within 8 9 op
+
+abbrev pub is_test : ℕ → Bool
+is_test op = within 19 21 op
+
+-- the instruction of a row, if the row is well formed
+abbrev pub of_row : Row → Result Instr Malformed
+of_row row = ok_or (decoded row) malformed
