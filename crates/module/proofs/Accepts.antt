@@ -11,37 +11,24 @@ use Rattle.isa.specs.declared.instr.Instr.{Instr}
 use Rattle.isa.specs.declared.instr.Instr.TheVariants.{Call, Ret}
 use Rattle.isa.specs.Access.{ends}
 use Rattle.isa.specs.Form.{well_formed, instruction}
-use Rattle.module.specs.declared.opened.Counts.{Counts}
+use Rattle.module.specs.declared.checked.Checked.{Checked}
 use Rattle.module.specs.declared.opened.Opened.{Opened}
 use Rattle.module.specs.declared.rule.Rule.{Rule}
 use Rattle.module.specs.declared.rule.Rule.TheVariants.{Form, Stack, Callee, Registers, Constants, Target, Ending}
-use Rattle.module.specs.Accepted.{accepted, counts_of}
+use Rattle.module.specs.Accepted.{accepted}
 use Rattle.module.specs.Bytes.{Octets, octets}
 use Rattle.module.specs.First.{passes}
 use Rattle.module.specs.Kept.{In, Reads, Writes, Kept, KeptEverywhere}
 use Rattle.module.specs.Laid.{Laid}
-use Rattle.module.specs.Layout.{routines, image_length, count, arguments, results, total, counts, opening, row_at, instr}
+use Rattle.module.specs.Layout.{routines, count, arguments, results, opening, row_at, instr}
 use Rattle.module.specs.Ready.{Everywhere}
 use Rattle.module.specs.Rules.{stacks, calls, access_in, both, fits, registers, variables, spares, constants, same_flag, same_shape, targets, closes, rules}
 use Rattle.module.specs.Shape.{shape}
-use Rattle.module.specs.Told.{Sound, bytes_of}
+use Rattle.module.specs.Told.{bytes_of}
 use Rattle.module.specs.Verdict.{breach, or_next, tried}
 use Rattle.module.proofs.Depths.{depth_kept}
 use Rattle.module.proofs.Opens.{laid}
 use Rattle.module.proofs.Passes.{everywhere}
-
-pub counted : (bs : List ℕ) (c : Counts) → c ≡ counts bs → counts_of bs c ≡ true
-counted bs c e =
-    let all : counts_of bs (counts bs) ≡ true
-    = and_from _ _ (eq-eqb (routines bs) _ refl) (and_from _ _ (eq-eqb (image_length bs) _ refl) (eq-eqb (total bs) _ refl)) in
-    ap (counts_of bs) e ∙ all
-
-pub counts_from : (bs : List ℕ) (c : Counts) → counts_of bs c ≡ true → c ≡ counts bs
-counts_from bs c h =
-    let n : c.routines ≡ routines bs = grind (arith, nat_tests) in
-    let d : c.image ≡ image_length bs = grind (arith, nat_tests) in
-    let t : c.total ≡ total bs = grind (arith, nat_tests) in
-    λ i. record { routines = n i; image = d i; total = t i }
 
 -- the parts of acceptance
 parts : (bs : List ℕ) → accepted bs ≡ true → (octets bs ≡ true) × (is_ok (opening bs) ≡ true) × (is_ok (tried rules bs) ≡ true)
@@ -59,20 +46,22 @@ octets_from : (bs : List ℕ) → Octets bs → octets bs ≡ true
 octets_from [] h = refl
 octets_from (b ∷ bs) h = and_from _ _ (lt-ltb b 256 (h 0)) (octets_from bs (λ k. h (suc k)))
 
--- an answer of the rules over bytes that open
-pub accepts_by : (r : Result (Unit {0}) Refusal) (bs : List ℕ) → told r ≡ tried rules bs → is_ok (opening bs) ≡ true → Octets bs → IfOk r (λ _. accepted bs ≡ true)
-accepts_by (Ok u) bs e opens each = and_from _ _ (octets_from bs each) (and_from _ _ opens (ap is_ok (sym e)))
-accepts_by (Err x) bs e opens each = tt
+-- an opened module that keeps the rules
+pub accepts : (o : Opened) → tried rules (bytes_of o) ≡ Ok tt → accepted (bytes_of o) ≡ true
+accepts o keeps = and_from _ _ (octets_from (bytes_of o) o.octets) (and_from _ _ (ap is_ok o.opens) (ap is_ok keeps))
+
+pub accepts_by : (r : Result (Unit {0}) Refusal) (o : Opened) → told r ≡ tried rules (bytes_of o) → IfOk r (λ _. accepted (bytes_of o) ≡ true)
+accepts_by (Ok u) o e = accepts o (sym e)
+accepts_by (Err x) o e = tt
+
+pub accepts_checked : (m : Checked) → accepted (bytes_of m.opened) ≡ true
+accepts_checked m = accepts m.opened m.keeps
 
 pub accepts_octets : (bs : List ℕ) → accepted bs ≡ true → Octets bs
 accepts_octets bs h = octets_at bs (parts bs h).0
 
 pub accepts_laid : (bs : List ℕ) → accepted bs ≡ true → Laid bs
 accepts_laid bs h = laid bs (parts bs h).1
-
--- a checked module is sound
-pub checked_sound : (o : Opened) → accepted (bytes_of o) ≡ true → counts_of (bytes_of o) o.counts ≡ true → Sound o
-checked_sound o keeps same = record { laid = accepts_laid (bytes_of o) keeps; counted = counts_from (bytes_of o) o.counts same }
 
 next_ok : (q : Rule) (o : Option Place) (next : Result (Unit {0}) Values) → is_ok (or_next q o next) ≡ true → (o ≡ None) × (is_ok next ≡ true)
 next_ok q None next h = (refl, h)
@@ -98,6 +87,13 @@ rules_hold bs h =
       | Target ↦ everywhere Target bs f.0
       | Ending ↦ everywhere Ending bs g.0
     ]
+
+ok_is : (r : Result (Unit {0}) Values) → is_ok r ≡ true → r ≡ Ok tt
+ok_is (Ok u) h = refl
+ok_is (Err e) h = absurd (false≢true h)
+
+pub accepts_tried : (bs : List ℕ) → accepted bs ≡ true → tried rules bs ≡ Ok tt
+accepts_tried bs h = ok_is (tried rules bs) (parts bs h).2
 
 pub accepts_rules : (bs : List ℕ) → accepted bs ≡ true → (q : Rule) → Everywhere q bs
 accepts_rules bs h = rules_hold bs (parts bs h).2

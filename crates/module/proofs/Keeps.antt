@@ -16,6 +16,7 @@ use Rattle.module.specs.Told.{bytes_of}
 use Rattle.module.specs.Verdict.{blank}
 use Rattle.module.proofs.Depths.{depth_kept}
 use Rattle.module.proofs.Lookup.{rows_long, row_at_lem}
+use Rattle.module.proofs.Opens.{opened_laid}
 
 module _ (q : Rule) (o : Opened) (r : ℕ) (rows : List ShapeRow) (w : Within q o r rows) (i : ℕ) (lt : i < count (bytes_of o) r) (x : Instr) (e : Some x ≡ instr (bytes_of o) r i) where
   abbrev bs : List ℕ
@@ -35,7 +36,7 @@ module _ (q : Rule) (o : Opened) (r : ℕ) (rows : List ShapeRow) (w : Within q 
   calls_here h = ap (passes (calls bs)) e ∙ w.ready Callee h r i w.routine lt
 
   pub shallow : number Stack < number q → Shallow bs r
-  shallow h j l = depth_kept w.sound.laid r w.routine (w.ready Stack h) j (omega arith)
+  shallow h j l = depth_kept (opened_laid o) r w.routine (w.ready Stack h) j (omega arith)
 
   pub stack_kept : (b : Bool) → b ≡ stacks here.depth x → b ≡ holds Stack bs r i
   stack_kept b p = p ∙ ap (λ d. stacks d x) depth_is ∙ ap (passes (stacks (length (shape bs r i)))) e

@@ -3,11 +3,12 @@ use Rattle.std.proofs.Common.{◌≡◌, ◌⊎◌, inl, inr, ℕ, suc, ◌+◌,
 use Rattle.std.proofs.lemmas.Bool.{and_left, and_right, cond-true, cond-false, le-leb, lt-leb, eqb-true, false≢true}
 use Rattle.std.proofs.lemmas.Bool.Decides.{nat_tests}
 use Rattle.refusal.specs.Values.{Values, author}
+use Rattle.module.specs.declared.opened.Counts.{Counts}
 use Rattle.module.specs.declared.opened.Opened.{Opened}
 use Rattle.module.specs.First.{first_failing}
 use Rattle.module.specs.Laid.{Laid}
-use Rattle.module.specs.Layout.{routines, image_length, offset, count, arguments, results, before, length_given, counts, counts_right, entry_right, provided, unless_wrong, opening}
-use Rattle.module.specs.Told.{Sound, bytes_of}
+use Rattle.module.specs.Layout.{routines, image_length, offset, count, arguments, results, before, total, length_given, counts, counts_right, entry_right, provided, unless_wrong, opening}
+use Rattle.module.specs.Told.{bytes_of}
 use Rattle.module.proofs.Firsts.{first_none, sum_mono}
 
 provided-ok : {X : Type 0} (b : Bool) (v : Values) (rest : Result X Values) → is_ok (provided b v rest) ≡ true → (b ≡ true) × (is_ok rest ≡ true)
@@ -41,6 +42,7 @@ record Tests (bs : List ℕ) : Type 0 where
   counted : counts_right bs ≡ true
   entered : first_failing (entry_right bs) (routines bs) 0 ≡ None
   long : eqb (length bs) (length_given bs) ≡ true
+  told : opening bs ≡ Ok (counts bs)
 
 tests : (bs : List ℕ) → is_ok (opening bs) ≡ true → Tests bs
 tests bs h =
@@ -49,7 +51,12 @@ tests bs h =
     let c = provided-ok (leb (4 + 8 * routines bs) (length bs)) _ _ b.1 in
     let d = entries_ok (first_failing (entry_right bs) (routines bs) 0) _ c.1 in
     let e = provided-ok (eqb (length bs) (length_given bs)) _ _ d.1 in
-    record { counted = b.0; entered = d.0; long = e.0 }
+    record {
+      counted = b.0;
+      entered = d.0;
+      long = e.0;
+      told = cond-true _ _ _ a.0 ∙ cond-true _ _ _ b.0 ∙ cond-true _ _ _ c.0 ∙ ap (λ o. unless_wrong o (provided (eqb (length bs) (length_given bs)) (author 4 0 0) (Ok (counts bs)))) d.0 ∙ cond-true _ _ _ e.0;
+    }
 
 pub laid : (bs : List ℕ) → is_ok (opening bs) ≡ true → Laid bs
 laid bs h =
@@ -78,12 +85,23 @@ laid bs h =
       };
     }
 
--- what open gives
-pub sound : (o : Opened) (bs : List ℕ) → bytes_of o ≡ bs → Ok o.counts ≡ opening bs → o.counts ≡ counts bs → Sound o
-sound o bs shows verdict same = record {
-  laid = laid (bytes_of o) (ap (λ x. is_ok (opening x)) shows ∙ ap is_ok (sym verdict));
-  counted = same ∙ ap counts (sym shows);
-}
+counts_opened : (bs : List ℕ) (c : Counts) → opening bs ≡ Ok c → c ≡ counts bs
+counts_opened bs c e =
+    let same : Ok c ≡ Ok (counts bs) = sym e ∙ (tests bs (ap is_ok e)).told in (cc)
+
+-- an opened module
+module _ (o : Opened) where
+  pub opened_laid : Laid (bytes_of o)
+  opened_laid = laid (bytes_of o) (ap is_ok o.opens)
+
+  pub opened_counts : o.counts ≡ counts (bytes_of o)
+  opened_counts = counts_opened (bytes_of o) o.counts o.opens
+
+  pub opened_routines : o.counts.routines ≡ routines (bytes_of o)
+  opened_routines = ap (λ x. x.routines) opened_counts
+
+  pub opened_total : o.counts.total ≡ total (bytes_of o)
+  opened_total = ap (λ x. x.total) opened_counts
 
 -- n routines and an image of d bytes are out of range: there is no routine, there are more than 64, or the image is too long
 counts_out : (bs : List ℕ) (n d : ℕ) → n ≡ routines bs → d ≡ image_length bs →

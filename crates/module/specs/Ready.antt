@@ -6,7 +6,7 @@ use Rattle.module.specs.declared.shape.ShapeRow.{ShapeRow}
 use Rattle.module.specs.Layout.{routines, count}
 use Rattle.module.specs.Rules.{holds, number}
 use Rattle.module.specs.Shape.{shape, routine_rows}
-use Rattle.module.specs.Told.{Sound, bytes_of}
+use Rattle.module.specs.Told.{bytes_of}
 
 -- every instruction of the module keeps the rule
 abbrev pub Everywhere : Rule → List ℕ → Type 0
@@ -22,7 +22,6 @@ Shallow bs r = (i : ℕ) → i < count bs r → length (shape bs r i) ≤ 32
 
 -- a pass of rule q stands in routine r, whose rows of the sheet are filled
 pub record Within (q : Rule) (o : Opened) (r : ℕ) (rows : List ShapeRow) : Type 0 where
-  pub sound : Sound o
   pub ready : Ready q (bytes_of o)
   pub routine : r < routines (bytes_of o)
   pub filled : rows ≡ routine_rows (bytes_of o) r

@@ -4,10 +4,9 @@ ghost use Rattle.module.specs.Accepted.{accepted};
 ghost use Rattle.module.specs.Layout.{routines, total};
 ghost use Rattle.module.specs.Rules.{rules};
 ghost use Rattle.module.specs.Shape.{rows_before};
-ghost use Rattle.module.specs.Told.{Sound, bytes_of};
+ghost use Rattle.module.specs.Told.{bytes_of};
 ghost use Rattle.module.specs.Verdict.{tried, checking, blank, marked, sheet_after};
 
-use crate::open::open;
 use crate::opened::Opened;
 use crate::rule::Rule;
 use crate::shape::ShapeRow;
@@ -24,8 +23,7 @@ fn clear_rows(rows: &mut [ShapeRow])
 impl Opened<'_> {
     // Tries the rules in turn over filled rows.
     fn try_rules(&self, rows: &[ShapeRow]) -> Result<(), Refusal>
-        requires sound { Sound self.now }
-        requires filled { rows.now ≡ rows_before (bytes_of self.now) (routines (bytes_of self.now)) }
+        requires { rows.now ≡ rows_before (bytes_of self.now) (routines (bytes_of self.now)) }
         ensures { told result ≡ tried rules (bytes_of self.now) }
     {
         for rule in [
@@ -46,8 +44,7 @@ impl Opened<'_> {
 
     // Fills the rows and tries the rules; where one is broken, the rows are cleared.
     fn judge(&self, rows: &mut [ShapeRow]) -> Result<(), Refusal>
-        requires sound { Sound self.now }
-        requires room { length rows.old ≡ total (bytes_of self.now) }
+        requires { length rows.old ≡ total (bytes_of self.now) }
         ensures verdict { told result ≡ tried rules (bytes_of self.now) }
         ensures rows { rows.new ≡ marked (bytes_of self.now) (tried rules (bytes_of self.now)) }
     {
@@ -66,12 +63,10 @@ impl Opened<'_> {
         ensures sheet { sheet.new ≡ sheet_after (bytes_of self.now) sheet.old }
         ensures accepts { OnOk result (accepted (bytes_of self.now) ≡ true) }
     {
-        // The type cannot carry what open found, so it is found again.
-        let again = open(self.bytes)?;
-        let total = again.counts.total;
+        let total = self.counts.total;
         if sheet.len() < total {
             return Err(Refusal::Sheet);
         }
-        again.judge(&mut sheet[0..total])
+        self.judge(&mut sheet[0..total])
     }
 }

@@ -1,7 +1,7 @@
 ghost use Rattle.std.specs.Prelude.{◌≡◌, ◌<◌, length};
 ghost use Rattle.module.specs.Layout.{routines, count, total};
 ghost use Rattle.module.specs.Shape.{routine_rows, rows_before};
-ghost use Rattle.module.specs.Told.{Sound, bytes_of};
+ghost use Rattle.module.specs.Told.{bytes_of};
 
 use crate::opened::Opened;
 use crate::shape::ShapeRow;
@@ -9,7 +9,6 @@ use crate::shape::ShapeRow;
 impl Opened<'_> {
     // Fills the rows of one routine.
     fn fill_routine(&self, routine: usize, rows: &mut [ShapeRow])
-        requires sound { Sound self.now }
         requires index { routine < routines (bytes_of self.now) }
         requires room { length rows.old ≡ count (bytes_of self.now) routine }
         ensures { rows.new ≡ routine_rows (bytes_of self.now) routine }
@@ -27,8 +26,7 @@ impl Opened<'_> {
 
     // Fills the rows of all routines.
     pub(crate) fn fill(&self, rows: &mut [ShapeRow])
-        requires sound { Sound self.now }
-        requires room { length rows.old ≡ total (bytes_of self.now) }
+        requires { length rows.old ≡ total (bytes_of self.now) }
         ensures { rows.new ≡ rows_before (bytes_of self.now) (routines (bytes_of self.now)) }
     {
         let mut start = 0;

@@ -1,4 +1,6 @@
-ghost use Rattle.std.specs.Prelude.{◌≡◌};
+ghost use Rattle.std.specs.Prelude.{◌≡◌, Ok};
+ghost use Rattle.module.specs.Bytes.{Octets};
+ghost use Rattle.module.specs.Layout.{opening};
 
 /// How much there is of everything in a module.
 #[derive(Clone, Copy, PartialEq, Eq, Debug)]
@@ -16,12 +18,18 @@ pub struct Counts {
 pub struct Opened<'a> {
     pub(crate) bytes: &'a [u8],
     pub(crate) counts: Counts,
+    ghost opens: { opening bytes.now ≡ Ok counts },
+    ghost octets: { Octets bytes.now },
 }
 
 impl<'a> Opened<'a> {
+    ghost use Rattle.module.specs.Layout.{counts};
+    ghost use Rattle.module.specs.Told.{bytes_of};
+
     /// How much there is of everything.
     pub fn counts(&self) -> Counts
-        ensures { result ≡ self.now.counts }
+        ensures shown { result ≡ self.now.counts }
+        ensures counts { result ≡ counts (bytes_of self.now) }
     {
         self.counts
     }

@@ -1,7 +1,7 @@
 // What an opened module shows of its contents and bodies.
 ghost use Rattle.std.specs.Prelude.{◌≡◌, ◌+◌, ◌<◌, ◌≤◌, length};
 ghost use Rattle.module.specs.Layout.{routines, count, signature, row_from, row_at, instr};
-ghost use Rattle.module.specs.Told.{Sound, bytes_of};
+ghost use Rattle.module.specs.Told.{bytes_of};
 
 use crate::bytes::read_four;
 use crate::contents::{count_of, offset_of, signature_of};
@@ -27,8 +27,7 @@ pub(crate) fn row_from(bytes: &[u8], at: usize) -> Row
 impl Opened<'_> {
     // How many instructions a routine has.
     pub(crate) fn count(&self, routine: usize) -> usize
-        requires sound { Sound self.now }
-        requires index { routine < routines (bytes_of self.now) }
+        requires { routine < routines (bytes_of self.now) }
         ensures { result ≡ count (bytes_of self.now) routine }
     {
         count_of(self.bytes, routine)
@@ -36,8 +35,7 @@ impl Opened<'_> {
 
     // What a routine takes and gives.
     pub(crate) fn signature(&self, routine: usize) -> Signature
-        requires sound { Sound self.now }
-        requires index { routine < routines (bytes_of self.now) }
+        requires { routine < routines (bytes_of self.now) }
         ensures { result ≡ signature (bytes_of self.now) routine }
     {
         signature_of(self.bytes, routine)
@@ -45,7 +43,6 @@ impl Opened<'_> {
 
     // An instruction as it stands in its body.
     pub(crate) fn row(&self, routine: usize, instruction: usize) -> Row
-        requires sound { Sound self.now }
         requires index { routine < routines (bytes_of self.now) }
         requires place { instruction < count (bytes_of self.now) routine }
         ensures { result ≡ row_at (bytes_of self.now) routine instruction }
@@ -55,7 +52,6 @@ impl Opened<'_> {
 
     // An instruction, if its row is well formed.
     pub(crate) fn instr(&self, routine: usize, instruction: usize) -> Option<Instr>
-        requires sound { Sound self.now }
         requires index { routine < routines (bytes_of self.now) }
         requires place { instruction < count (bytes_of self.now) routine }
         ensures { result ≡ instr (bytes_of self.now) routine instruction }

@@ -4,7 +4,7 @@ ghost use Rattle.module.specs.Layout.{routines, count};
 ghost use Rattle.module.specs.Ready.{Ready, Within, Shallow};
 ghost use Rattle.module.specs.Rules.{stacks, calls, callee_signature, access_in, both, fits, spares, same_shape, targets, holds};
 ghost use Rattle.module.specs.Shape.{row_of, routine_rows, rows_before};
-ghost use Rattle.module.specs.Told.{Sound, bytes_of};
+ghost use Rattle.module.specs.Told.{bytes_of};
 ghost use Rattle.module.specs.Verdict.{breach_in, breach};
 
 use crate::limits;
@@ -83,7 +83,6 @@ fn ending_holds(count: usize, i: usize, instr: Instr) -> bool
 
 impl Opened<'_> {
     fn callee_holds(&self, instr: Instr) -> bool
-        requires { Sound self.now }
         ensures { result ≡ calls (bytes_of self.now) instr }
     {
         match instr.callee() {
@@ -93,8 +92,7 @@ impl Opened<'_> {
     }
 
     fn callee_signature(&self, instr: Instr) -> Signature
-        requires sound { Sound self.now }
-        requires calls { calls (bytes_of self.now) instr ≡ true }
+        requires { calls (bytes_of self.now) instr ≡ true }
         ensures { result ≡ callee_signature (bytes_of self.now) (callee instr) }
     {
         match instr.callee() {
@@ -107,7 +105,6 @@ impl Opened<'_> {
     }
 
     fn access(&self, routine: usize, instr: Instr) -> Access
-        requires sound { Sound self.now }
         requires index { routine < routines (bytes_of self.now) }
         requires calls { calls (bytes_of self.now) instr ≡ true }
         ensures { result ≡ access_in (bytes_of self.now) routine instr }
@@ -152,7 +149,6 @@ impl Opened<'_> {
 
     // The first place that breaks a rule.
     pub(crate) fn breach(&self, rule: Rule, rows: &[ShapeRow]) -> Option<Place>
-        requires sound { Sound self.now }
         requires ready { Ready rule (bytes_of self.now) }
         requires filled { rows.now ≡ rows_before (bytes_of self.now) (routines (bytes_of self.now)) }
         ensures { result ≡ breach rule (bytes_of self.now) (routines (bytes_of self.now)) 0 }

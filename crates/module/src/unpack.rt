@@ -1,7 +1,7 @@
 ghost use Rattle.std.specs.Prelude.{◌≡◌, ◌<◌, length};
 ghost use Rattle.refusal.specs.Values.{told};
 ghost use Rattle.module.specs.Layout.{routines, total};
-ghost use Rattle.module.specs.Told.{Sound, bytes_of};
+ghost use Rattle.module.specs.Told.{bytes_of};
 ghost use Rattle.module.specs.Unpack.{entry_of, body_row, entries as entries_of, rows as rows_of, image as image_of, unpacking, entries_after, rows_after};
 
 use crate::checked::Checked;
@@ -15,8 +15,7 @@ use refusal::Refusal;
 
 impl Opened<'_> {
     fn entry(&self, routine: usize) -> Entry
-        requires sound { Sound self.now }
-        requires index { routine < routines (bytes_of self.now) }
+        requires { routine < routines (bytes_of self.now) }
         ensures { result ≡ entry_of (bytes_of self.now) routine }
     {
         let count = count_of(self.bytes, routine) as u16;
@@ -30,16 +29,14 @@ impl Opened<'_> {
 
     // Instruction k of all.
     fn body_row(&self, k: usize) -> Row
-        requires sound { Sound self.now }
-        requires index { k < total (bytes_of self.now) }
+        requires { k < total (bytes_of self.now) }
         ensures { result ≡ body_row (bytes_of self.now) k }
     {
         row_from(self.bytes, 4 + 8 * self.counts.routines + 8 * k)
     }
 
     fn write_entries(&self, entries: &mut [Entry])
-        requires sound { Sound self.now }
-        requires room { length entries.old ≡ routines (bytes_of self.now) }
+        requires { length entries.old ≡ routines (bytes_of self.now) }
         ensures { entries.new ≡ entries_of (bytes_of self.now) }
     {
         for r in 0..entries.len() {
@@ -48,8 +45,7 @@ impl Opened<'_> {
     }
 
     fn write_rows(&self, rows: &mut [Row])
-        requires sound { Sound self.now }
-        requires room { length rows.old ≡ total (bytes_of self.now) }
+        requires { length rows.old ≡ total (bytes_of self.now) }
         ensures { rows.new ≡ rows_of (bytes_of self.now) }
     {
         for k in 0..rows.len() {

@@ -4,6 +4,7 @@ use Rattle.module.specs.Layout.{count}
 use Rattle.module.specs.Shape.{after, shape, row_of, sheet_row}
 use Rattle.module.specs.Verdict.{blank}
 use Rattle.module.proofs.Depths.{depth_grows}
+use Rattle.module.proofs.Opens.{opened_laid}
 use Rattle.module.proofs.ShapeRows.{entered, shape_row}
 use Rattle.module.proofs.opened.Opened.fill_routine.Goals as goal
 
@@ -13,7 +14,7 @@ loop-i-init c =
 
 pub after-shape-requires : goal.after-shape-requires
 after-shape-requires c =
-    let ok = c.requires.sound.laid in
+    let ok = opened_laid c.args.self.now in
     let r = c.args.routine in
     let e = ok.entry r c.requires.index in
     omega (arith, ap (λ g. g.depth) c.loop-i.invariant.0, depth_grows ok r c.requires.index c.loop-i.i, ok.short, e.inside, c.requires.room)

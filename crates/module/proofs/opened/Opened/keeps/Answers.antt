@@ -15,13 +15,13 @@ pub access-requires : goal.access-requires
 access-requires c =
     let w = c.requires.within in
     let late : number Callee < number c.args.rule = omega (arith, ap number c.in-Registers.is) in
-    record { sound = w.sound; index = w.routine; calls = calls_here _ _ _ _ w _ c.requires.index _ c.in-Some.ensures late }
+    record { index = w.routine; calls = calls_here _ _ _ _ w _ c.requires.index _ c.in-Some.ensures late }
 
 pub access-requires-in-Constants : goal.access-requires-in-Constants
 access-requires-in-Constants c =
     let w = c.requires.within in
     let late : number Callee < number c.args.rule = omega (arith, ap number c.in-Constants.is) in
-    record { sound = w.sound; index = w.routine; calls = calls_here _ _ _ _ w _ c.requires.index _ c.in-Some.ensures late }
+    record { index = w.routine; calls = calls_here _ _ _ _ w _ c.requires.index _ c.in-Some.ensures late }
 
 pub returns-in-Stack : goal.returns-in-Stack
 returns-in-Stack c =

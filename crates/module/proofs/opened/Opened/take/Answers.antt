@@ -1,6 +1,6 @@
 use Rattle.module.specs.Told.{bytes_of}
-use Rattle.module.proofs.Accepts.{counted}
+use Rattle.module.proofs.Accepts.{accepts_tried}
 use Rattle.module.proofs.opened.Opened.take.Goals as goal
 
 pub invariant_of-result : goal.invariant_of-result
-invariant_of-result c = let o = c.args.self in record { keeps = c.requires.accepted; counted = counted (bytes_of o) o.counts c.requires.counted }
+invariant_of-result c = record { keeps = accepts_tried (bytes_of c.args.self) c.requires.accepted }
