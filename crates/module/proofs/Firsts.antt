@@ -1,5 +1,5 @@
 -- The first number and the first place at which a test fails, one on.
-use Rattle.std.proofs.Common.{◌≡◌, ℕ, zero, suc, ◌+◌, ◌-◌, ◌<◌, ◌≤◌, Bool, true, false, cond, Some, None, Option, sym, refl, ap, ◌∙◌, subst, ⊎_elim, add-zero, add-suc, arith}
+use Rattle.std.proofs.Common.{◌≡◌, ℕ, zero, suc, ◌+◌, ◌-◌, ◌<◌, ◌≤◌, Bool, true, false, cond, MatchOption, Some, None, Option, sym, refl, ap, ◌∙◌, subst, ⊎_elim, add-zero, add-suc, arith}
 use Rattle.std.proofs.lemmas.Bool.{cases_Bool, cases_order, cond-true, cond-false}
 use Rattle.refusal.specs.declared.Place.{Place}
 use Rattle.module.specs.First.{first_failing, or_later, first_place, sum_to}
@@ -29,6 +29,27 @@ module _ (test : ℕ → Bool) where
       (λ b. let h = first_in left (k + 1) j (sym (cond-true _ _ _ b) ∙ e) in omega arith)
       (λ b. let s : Some k ≡ Some j = sym (cond-false _ _ _ b) ∙ e in let h : k ≡ j = grind arith in omega arith)
       (cases_Bool (test k))
+
+-- the first failure from what a search over the numbers answers
+module _ (test : ℕ → Bool) where
+  all_pass : (left k : ℕ) → ((j : ℕ) → k ≤ j → j < k + left → test j ≡ true) → None ≡ first_failing test left k
+  all_pass zero k ok = refl
+  all_pass (suc left) k ok =
+      all_pass left (k + 1) (λ j g h. ok j (omega arith) (omega arith)) ∙ sym (cond-true _ _ _ (ok k (omega arith) (omega arith)))
+
+  one_fails : (left k i : ℕ) → k ≤ i → i < k + left → test i ≡ false → ((j : ℕ) → k ≤ j → j < i → test j ≡ true) → Some i ≡ first_failing test left k
+  one_fails zero k i g h bad ok = absurd (omega arith)
+  one_fails (suc left) k i g h bad ok =
+      ⊎_elim
+      (λ e. ap Some e ∙ sym (cond-false _ _ _ (ap test (sym e) ∙ bad)))
+      (⊎_elim
+      (λ l. absurd (omega arith))
+      (λ l. one_fails left (k + 1) i (omega arith) (omega arith) bad (λ j a b. ok j (omega arith) b) ∙ sym (cond-true _ _ _ (ok k (omega arith) l))))
+      (cases_order i k)
+
+  pub first_found : (n : ℕ) (r : Option ℕ) → MatchOption r ((j : ℕ) → 0 ≤ j → j < n → test j ≡ true) (λ i. (0 ≤ i) × (i < n) × (test i ≡ false) × ((j : ℕ) → 0 ≤ j → j < i → test j ≡ true)) → r ≡ first_failing test n 0
+  first_found n None ok = all_pass n 0 (λ j g h. ok j g (omega arith))
+  first_found n (Some i) found = one_fails n 0 i found.0 (omega (arith, found.1)) found.2 found.3
 
 -- tests that agree have the same first failure
 pub first_same : (f g : ℕ → Bool) (left k : ℕ) → ((j : ℕ) → j < k + left → f j ≡ g j) → first_failing f left k ≡ first_failing g left k

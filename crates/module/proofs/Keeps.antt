@@ -3,7 +3,7 @@ use Rattle.std.proofs.Common.{◌≡◌, ℕ, ◌+◌, ◌<◌, Bool, true, not,
 use Rattle.isa.specs.declared.access.Access.{Access}
 use Rattle.isa.specs.declared.instr.Instr.{Instr}
 use Rattle.isa.specs.Access.{ends}
-use Rattle.module.specs.declared.opened.Opened.{Opened}
+use Rattle.module.specs.declared.routine.Routine.{Routine}
 use Rattle.module.specs.declared.rule.Rule.{Rule}
 use Rattle.module.specs.declared.rule.Rule.TheVariants.{Stack, Callee, Registers, Constants, Target, Ending}
 use Rattle.module.specs.declared.shape.ShapeRow.{ShapeRow}
@@ -12,15 +12,18 @@ use Rattle.module.specs.Layout.{count, instr}
 use Rattle.module.specs.Ready.{Within, Shallow}
 use Rattle.module.specs.Rules.{stacks, calls, access_in, both, fits, registers, spares, constants, targets, closes, holds, number}
 use Rattle.module.specs.Shape.{shape, row_of}
-use Rattle.module.specs.Told.{bytes_of}
+use Rattle.module.specs.Told.{bytes_in}
 use Rattle.module.specs.Verdict.{blank}
 use Rattle.module.proofs.Depths.{depth_kept}
 use Rattle.module.proofs.Lookup.{rows_long, row_at_lem}
-use Rattle.module.proofs.Opens.{opened_laid}
+use Rattle.module.proofs.Opens.{opened_laid, routine_in}
 
-module _ (q : Rule) (o : Opened) (r : ℕ) (rows : List ShapeRow) (w : Within q o r rows) (i : ℕ) (lt : i < count (bytes_of o) r) (x : Instr) (e : Some x ≡ instr (bytes_of o) r i) where
+module _ (q : Rule) (t : Routine) (rows : List ShapeRow) (w : Within q t rows) (i : ℕ) (lt : i < count (bytes_in t) t.index) (x : Instr) (e : Some x ≡ instr (bytes_in t) t.index i) where
   abbrev bs : List ℕ
-  bs = bytes_of o
+  bs = bytes_in t
+
+  abbrev r : ℕ
+  r = t.index
 
   abbrev here : ShapeRow
   here = get_or rows i blank
@@ -33,10 +36,10 @@ module _ (q : Rule) (o : Opened) (r : ℕ) (rows : List ShapeRow) (w : Within q 
 
   -- rules that stand before
   pub calls_here : number Callee < number q → calls bs x ≡ true
-  calls_here h = ap (passes (calls bs)) e ∙ w.ready Callee h r i w.routine lt
+  calls_here h = ap (passes (calls bs)) e ∙ w.ready Callee h r i (routine_in t) lt
 
   pub shallow : number Stack < number q → Shallow bs r
-  shallow h j l = depth_kept (opened_laid o) r w.routine (w.ready Stack h) j (omega arith)
+  shallow h j l = depth_kept (opened_laid t.module.now) r (routine_in t) (w.ready Stack h) j (omega arith)
 
   pub stack_kept : (b : Bool) → b ≡ stacks here.depth x → b ≡ holds Stack bs r i
   stack_kept b p = p ∙ ap (λ d. stacks d x) depth_is ∙ ap (passes (stacks (length (shape bs r i)))) e

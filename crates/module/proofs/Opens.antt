@@ -1,14 +1,17 @@
 -- Bytes that pass the opening tests are laid out as the rules say.
-use Rattle.std.proofs.Common.{◌≡◌, ◌⊎◌, inl, inr, ℕ, suc, ◌+◌, ◌-◌, ◌*◌, ◌<◌, ◌≤◌, Bool, true, false, eqb, leb, List, length, is_ok, Some, None, Ok, Err, Option, Result, sym, refl, ap, ◌∙◌, arith}
-use Rattle.std.proofs.lemmas.Bool.{and_left, and_right, cond-true, cond-false, le-leb, lt-leb, eqb-true, false≢true}
+use Rattle.std.proofs.Common.{◌≡◌, ◌⊎◌, inl, inr, ℕ, suc, ◌+◌, ◌-◌, ◌*◌, ◌<◌, ◌≤◌, Bool, true, false, ◌&&◌, eqb, leb, List, length, is_ok, Some, None, Ok, Err, Option, Result, sym, refl, ap, ◌∙◌, arith}
+use Rattle.std.proofs.lemmas.Bool.{and_left, and_right, and_from, eq-eqb, ne_eqb, cond-true, cond-false, le-leb, lt-leb, eqb-true, false≢true}
 use Rattle.std.proofs.lemmas.Bool.Decides.{nat_tests}
 use Rattle.refusal.specs.Values.{Values, author}
+use Rattle.module.specs.declared.entry.Entry.{Entry}
 use Rattle.module.specs.declared.opened.Counts.{Counts}
 use Rattle.module.specs.declared.opened.Opened.{Opened}
+use Rattle.module.specs.declared.routine.Routine.{Routine}
 use Rattle.module.specs.First.{first_failing}
-use Rattle.module.specs.Laid.{Laid}
-use Rattle.module.specs.Layout.{routines, image_length, offset, count, arguments, results, before, total, length_given, counts, counts_right, entry_right, provided, unless_wrong, opening}
-use Rattle.module.specs.Told.{bytes_of}
+use Rattle.module.specs.Laid.{Entered, Laid}
+use Rattle.module.specs.Layout.{right as right_of}
+use Rattle.module.specs.Layout.{entry_of, routines, image_length, offset, count, arguments, results, before, total, length_given, counts, counts_right, entry_right, provided, unless_wrong, opening}
+use Rattle.module.specs.Told.{bytes_of, bytes_in}
 use Rattle.module.proofs.Firsts.{first_none, sum_mono}
 
 provided-ok : {X : Type 0} (b : Bool) (v : Values) (rest : Result X Values) → is_ok (provided b v rest) ≡ true → (b ≡ true) × (is_ok rest ≡ true)
@@ -102,6 +105,30 @@ module _ (o : Opened) where
 
   pub opened_total : o.counts.total ≡ total (bytes_of o)
   opened_total = ap (λ x. x.total) opened_counts
+
+  pub opened_entry : (r : ℕ) → r < o.counts.routines → Entered (bytes_of o) r
+  opened_entry r h = opened_laid.entry r (omega (arith, opened_routines))
+
+-- a routine of one
+pub routine_in : (t : Routine) → t.index < routines (bytes_in t)
+routine_in t = omega (arith, t.there, opened_routines t.module.now)
+
+pub routine_entered : (t : Routine) → Entered (bytes_in t) t.index
+routine_entered t = opened_entry t.module.now t.index t.there
+
+-- an entry as it was read
+module _ (bs : List ℕ) (n r sum at : ℕ) (e : Entry) (en : n ≡ routines bs) (es : sum ≡ before bs r) (ea : at ≡ offset bs r) (ee : e ≡ entry_of bs r) where
+  entry_read : (eqb at (4 + 8 * n + 8 * sum) && right_of e r sum) ≡ entry_right bs r
+  entry_read = λ i. eqb (ea i) (4 + 8 * en i + 8 * es i) && right_of (ee i) r (es i)
+
+  pub entry_misplaced : (at ≡ 4 + 8 * n + 8 * sum → ⊥) → entry_right bs r ≡ false
+  entry_misplaced h = sym entry_read ∙ and_left _ _ (ne_eqb at _ h)
+
+  pub entry_wrong : right_of e r sum ≡ false → entry_right bs r ≡ false
+  entry_wrong h = sym entry_read ∙ and_right _ _ h
+
+  pub entry_passed : at ≡ 4 + 8 * n + 8 * sum → right_of e r sum ≡ true → entry_right bs r ≡ true
+  entry_passed p h = sym entry_read ∙ and_from _ _ (eq-eqb at _ p) h
 
 -- n routines and an image of d bytes are out of range: there is no routine, there are more than 64, or the image is too long
 counts_out : (bs : List ℕ) (n d : ℕ) → n ≡ routines bs → d ≡ image_length bs →

@@ -5,6 +5,7 @@ use Rattle.isa.specs.declared.access.Signature.{Signature}
 use Rattle.isa.specs.declared.instr.Instr.{Instr}
 use Rattle.isa.specs.declared.row.Row.{Row}
 use Rattle.isa.specs.Form.{decoded, row}
+use Rattle.module.specs.declared.entry.Entry.{Entry}
 use Rattle.module.specs.declared.opened.Counts.{Counts}
 use Rattle.module.specs.Bytes.{byte, two, four}
 use Rattle.module.specs.First.{first_failing, sum_to}
@@ -33,6 +34,10 @@ results bs r = byte bs (11 + 8 * r)
 abbrev pub signature : List ℕ → ℕ → Signature
 signature bs r = record { arguments = arguments bs r; results = results bs r }
 
+-- the entry without the offset
+abbrev pub entry_of : List ℕ → ℕ → Entry
+entry_of bs r = record { count = count bs r; arguments = arguments bs r; results = results bs r }
+
 -- the instructions of the routines before r
 abbrev pub before : List ℕ → ℕ → ℕ
 before bs r = sum_to (count bs) r
@@ -58,15 +63,18 @@ instr bs r i = decoded (row_at bs r i)
 abbrev pub counts_right : List ℕ → Bool
 counts_right bs = nat_le 1 (routines bs) && (nat_le (routines bs) 64 && nat_le (image_length bs) 4096)
 
+-- An entry may be that of routine r, after so many instructions in the routines before.
+abbrev pub right : Entry → ℕ → ℕ → Bool
+right e r earlier =
+    nat_le 1 e.count
+    && (nat_le e.arguments 32
+    && (nat_le e.results 8
+    && ((not (r == 0) || (e.arguments == 0 && e.results == 0))
+    && nat_le (earlier + e.count) 4096)))
+
 -- Bodies stand in the order of their entries, without gaps.
 abbrev pub entry_right : List ℕ → ℕ → Bool
-entry_right bs r =
-    (offset bs r == 4 + 8 * routines bs + 8 * before bs r)
-    && (nat_le 1 (count bs r)
-    && (nat_le (arguments bs r) 32
-    && (nat_le (results bs r) 8
-    && ((not (r == 0) || (arguments bs r == 0 && results bs r == 0))
-    && nat_le (before bs r + count bs r) 4096))))
+entry_right bs r = (offset bs r == 4 + 8 * routines bs + 8 * before bs r) && right (entry_of bs r) r (before bs r)
 
 -- the length that the contents give
 abbrev pub length_given : List ℕ → ℕ

@@ -4,10 +4,15 @@ use Rattle.refusal.specs.Values.{Values, values_of}
 use Rattle.refusal.specs.declared.Refusal.{Refusal}
 use Rattle.module.specs.declared.opened.Counts.{Counts}
 use Rattle.module.specs.declared.opened.Opened.{Opened}
+use Rattle.module.specs.declared.routine.Routine.{Routine}
 
 -- the bytes that it shows
 abbrev pub bytes_of : Opened → List ℕ
 bytes_of o = o.bytes.now
+
+-- the bytes of the module that a routine is of
+abbrev pub bytes_in : Routine → List ℕ
+bytes_in t = bytes_of t.module.now
 
 -- an answer by whether there is one
 abbrev pub verdict_of : {X : Type 0} → Result X Refusal → Result (Unit {0}) Values

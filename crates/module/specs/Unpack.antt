@@ -4,11 +4,8 @@ use Rattle.std.specs.List.{range_with_len}
 use Rattle.refusal.specs.Values.{Values, caller}
 use Rattle.isa.specs.declared.row.Row.{Row}
 use Rattle.module.specs.declared.entry.Entry.{Entry}
-use Rattle.module.specs.Layout.{routines, count, arguments, results, total, row_from, provided}
-
--- the entry of routine r, without its offset
-abbrev pub entry_of : List ℕ → ℕ → Entry
-entry_of bs r = record { count = count bs r; arguments = arguments bs r; results = results bs r }
+pub use Rattle.module.specs.Layout.{entry_of}
+use Rattle.module.specs.Layout.{routines, total, row_from, provided}
 
 -- instruction k of all, in order of place: bodies stand one after the other
 abbrev pub body_row : List ℕ → ℕ → Row

@@ -1,3 +1,8 @@
+ghost use Rattle.std.specs.Prelude.{◌≡◌};
+ghost use Rattle.module.specs.Layout.{right};
+
+use crate::limits;
+
 /// The entry of a routine, without its offset.
 #[derive(Clone, Copy, PartialEq, Eq, Debug)]
 pub struct Entry {
@@ -7,4 +12,17 @@ pub struct Entry {
     pub arguments: u8,
     /// What it gives.
     pub results: u8,
+}
+
+impl Entry {
+    /// Whether it may be the entry of a routine, after so many instructions in the routines before.
+    pub fn is_right(self, routine: usize, before: usize) -> bool
+        ensures { result ≡ right self routine before }
+    {
+        self.count >= 1
+            && self.arguments <= limits::ARGUMENTS
+            && self.results <= limits::RESULTS
+            && (routine != 0 || self.arguments == 0 && self.results == 0)
+            && before.saturating_add(usize::from(self.count)) <= limits::INSTRUCTIONS
+    }
 }

@@ -12,7 +12,7 @@ pub mod limits;
 pub mod open;
 pub mod opened;
 pub mod places;
-mod read;
+mod routine;
 mod rule;
 mod rules;
 pub mod shape;

@@ -6,31 +6,10 @@ ghost use Rattle.module.specs.Layout.{routines as routines_of, before, counts, e
 ghost use Rattle.module.specs.Told.{bytes_of, counted};
 
 use crate::bytes::read_two;
-use crate::contents::{count_of, offset_of, signature_of};
+use crate::contents::{entry_of, offset_of};
 use crate::limits;
 use crate::opened::{Counts, Opened};
-use isa::access::Signature;
 use refusal::Refusal;
-
-// Whether the entry of a routine is right, after entries with sum instructions.
-fn entry_right(bytes: &[u8], routines: usize, routine: usize, sum: usize) -> bool
-    requires room { 4 + 8 * routines ≤ length bytes.now }
-    requires all { routines ≡ routines_of bytes.now }
-    requires few { routines ≤ 64 }
-    requires index { routine < routines }
-    requires sum { sum ≡ before bytes.now routine }
-    requires short { sum ≤ 4096 }
-    ensures { result ≡ entry_right bytes.now routine }
-{
-    let count = count_of(bytes, routine);
-    let Signature { arguments, results } = signature_of(bytes, routine);
-    offset_of(bytes, routine) == 4 + 8 * routines + 8 * sum
-        && count >= 1
-        && arguments <= limits::ARGUMENTS
-        && results <= limits::RESULTS
-        && (routine != 0 || arguments == 0 && results == 0)
-        && sum + count <= limits::INSTRUCTIONS
-}
 
 // The number of instructions in all routines, if every entry is right.
 fn sum_entries(bytes: &[u8], routines: usize) -> Result<usize, Refusal>
@@ -43,10 +22,12 @@ fn sum_entries(bytes: &[u8], routines: usize) -> Result<usize, Refusal>
 {
     let mut sum = 0;
     for routine in 0..routines {
-        if !entry_right(bytes, routines, routine, sum) {
+        let entry = entry_of(bytes, routine);
+        let at = 4 + 8 * routines + 8 * sum;
+        if offset_of(bytes, routine) != at || !entry.is_right(routine, sum) {
             return Err(Refusal::Entry(routine as u16));
         }
-        sum += count_of(bytes, routine);
+        sum += usize::from(entry.count);
     }
     Ok(sum)
 }
@@ -61,8 +42,8 @@ pub fn open(bytes: &[u8]) -> Result<Opened<'_>, Refusal>
     if bytes.len() < 4 {
         return Err(Refusal::Truncated);
     }
-    let routines = read_two(bytes, 0);
-    let image = read_two(bytes, 2);
+    let routines = usize::from(read_two(bytes, 0));
+    let image = usize::from(read_two(bytes, 2));
     if routines < 1 || routines > limits::ROUTINES || image > limits::IMAGE {
         return Err(Refusal::Counts);
     }

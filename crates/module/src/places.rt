@@ -1,33 +1,36 @@
 // What a checked module has at a place.
-ghost use Rattle.std.specs.Prelude.{◌≡◌};
+ghost use Rattle.std.specs.Prelude.{◌≡◌, ◌≤◌, MatchOption};
+ghost use Rattle.module.specs.Layout.{routines};
 ghost use Rattle.module.specs.Places.{instr_at, signature_at};
-ghost use Rattle.module.specs.Told.{bytes_of};
+ghost use Rattle.module.specs.Told.{bytes_in, bytes_of};
 
 use crate::checked::Checked;
+use crate::routine::Routine;
 use isa::access::Signature;
 use isa::instr::Instr;
 
 impl Checked<'_> {
+    fn routine(&self, index: usize) -> Option<Routine<'_>>
+        ensures { MatchOption result (routines (bytes_of self.now.opened) ≤ index) (λ t. (bytes_in t ≡ bytes_of self.now.opened) × (t.index ≡ index)) }
+    {
+        if index < self.opened.counts.routines {
+            Some(self.opened.routine(index))
+        } else {
+            None
+        }
+    }
+
     /// An instruction of a routine, if there is one at this place.
     pub fn instruction(&self, routine: usize, instruction: usize) -> Option<Instr>
         ensures { result ≡ instr_at (bytes_of self.now.opened) routine instruction }
     {
-        if routine >= self.opened.counts.routines {
-            return None;
-        }
-        if instruction >= self.opened.count(routine) {
-            return None;
-        }
-        self.opened.instr(routine, instruction)
+        self.routine(routine)?.instr(instruction)
     }
 
     /// What a routine takes and gives, if there is such a routine.
     pub fn signature(&self, routine: usize) -> Option<Signature>
         ensures { result ≡ signature_at (bytes_of self.now.opened) routine }
     {
-        if routine >= self.opened.counts.routines {
-            return None;
-        }
-        Some(self.opened.signature(routine))
+        Some(self.routine(routine)?.signature())
     }
 }

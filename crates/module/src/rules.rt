@@ -4,11 +4,12 @@ ghost use Rattle.module.specs.Layout.{routines, count};
 ghost use Rattle.module.specs.Ready.{Ready, Within, Shallow};
 ghost use Rattle.module.specs.Rules.{stacks, calls, callee_signature, access_in, both, fits, spares, same_shape, targets, holds};
 ghost use Rattle.module.specs.Shape.{row_of, routine_rows, rows_before};
-ghost use Rattle.module.specs.Told.{bytes_of};
+ghost use Rattle.module.specs.Told.{bytes_in, bytes_of};
 ghost use Rattle.module.specs.Verdict.{breach_in, breach};
 
 use crate::limits;
 use crate::opened::Opened;
+use crate::routine::Routine;
 use crate::rule::Rule;
 use crate::shape::ShapeRow;
 use isa::access::{Access, Signature, Span};
@@ -81,22 +82,22 @@ fn ending_holds(count: usize, i: usize, instr: Instr) -> bool
     i + 1 != count || instr.ends()
 }
 
-impl Opened<'_> {
+impl Routine<'_> {
     fn callee_holds(&self, instr: Instr) -> bool
-        ensures { result ≡ calls (bytes_of self.now) instr }
+        ensures { result ≡ calls (bytes_in self.now) instr }
     {
         match instr.callee() {
-            Some(n) => (n as usize) < self.counts.routines,
+            Some(n) => (n as usize) < self.module.counts.routines,
             None => true,
         }
     }
 
     fn callee_signature(&self, instr: Instr) -> Signature
-        requires { calls (bytes_of self.now) instr ≡ true }
-        ensures { result ≡ callee_signature (bytes_of self.now) (callee instr) }
+        requires { calls (bytes_in self.now) instr ≡ true }
+        ensures { result ≡ callee_signature (bytes_in self.now) (callee instr) }
     {
         match instr.callee() {
-            Some(n) => self.signature(n as usize),
+            Some(n) => self.module.routine(n as usize).signature(),
             None => Signature {
                 arguments: 0,
                 results: 0,
@@ -104,22 +105,21 @@ impl Opened<'_> {
         }
     }
 
-    fn access(&self, routine: usize, instr: Instr) -> Access
-        requires index { routine < routines (bytes_of self.now) }
-        requires calls { calls (bytes_of self.now) instr ≡ true }
-        ensures { result ≡ access_in (bytes_of self.now) routine instr }
+    fn access(&self, instr: Instr) -> Access
+        requires { calls (bytes_in self.now) instr ≡ true }
+        ensures { result ≡ access_in (bytes_in self.now) self.now.index instr }
     {
         let called = self.callee_signature(instr);
-        instr.access(called, self.signature(routine))
+        instr.access(called, self.signature())
     }
 
     // Whether an instruction keeps a rule.
-    fn keeps(&self, rule: Rule, routine: usize, rows: &[ShapeRow], i: usize) -> bool
-        requires within { Within rule self.now routine rows.now }
-        requires index { i < count (bytes_of self.now) routine }
-        ensures { result ≡ holds rule (bytes_of self.now) routine i }
+    fn keeps(&self, rule: Rule, rows: &[ShapeRow], i: usize) -> bool
+        requires within { Within rule self.now rows.now }
+        requires index { i < count (bytes_in self.now) self.now.index }
+        ensures { result ≡ holds rule (bytes_in self.now) self.now.index i }
     {
-        let Some(instr) = self.instr(routine, i) else {
+        let Some(instr) = self.instr(i) else {
             return !matches!(rule, Rule::Form);
         };
         let here = rows[i];
@@ -127,42 +127,40 @@ impl Opened<'_> {
             Rule::Form => true,
             Rule::Stack => stack_holds(here.depth, instr),
             Rule::Callee => self.callee_holds(instr),
-            Rule::Registers => registers_hold(here.depth, self.access(routine, instr)),
-            Rule::Constants => constants_hold(here, self.access(routine, instr)),
+            Rule::Registers => registers_hold(here.depth, self.access(instr)),
+            Rule::Constants => constants_hold(here, self.access(instr)),
             Rule::Target => target_holds(rows, here, instr),
             Rule::Ending => ending_holds(rows.len(), i, instr),
         }
     }
 
-    // The first instruction of a routine that breaks a rule.
-    fn breach_in(&self, rule: Rule, routine: usize, rows: &[ShapeRow]) -> Option<usize>
-        requires { Within rule self.now routine rows.now }
-        ensures { result ≡ breach_in rule (bytes_of self.now) routine }
+    // The first instruction that breaks a rule.
+    fn breach(&self, rule: Rule, rows: &[ShapeRow]) -> Option<usize>
+        requires { Within rule self.now rows.now }
+        ensures { result ≡ breach_in rule (bytes_in self.now) self.now.index }
     {
-        for i in 0..rows.len() {
-            if !self.keeps(rule, routine, rows, i) {
-                return Some(i);
-            }
-        }
-        None
+        (0..rows.len()).find(|i| !self.keeps(rule, rows, *i))
     }
+}
 
+impl Opened<'_> {
     // The first place that breaks a rule.
     pub(crate) fn breach(&self, rule: Rule, rows: &[ShapeRow]) -> Option<Place>
         requires ready { Ready rule (bytes_of self.now) }
         requires filled { rows.now ≡ rows_before (bytes_of self.now) (routines (bytes_of self.now)) }
         ensures { result ≡ breach rule (bytes_of self.now) (routines (bytes_of self.now)) 0 }
     {
-        let mut start = 0;
-        for routine in 0..self.counts.routines {
-            let end = start + self.count(routine);
-            if let Some(i) = self.breach_in(rule, routine, &rows[start..end]) {
+        let mut rest = rows;
+        for index in 0..self.counts.routines {
+            let routine = self.routine(index);
+            let (own, later) = rest.split_at(routine.count());
+            if let Some(i) = routine.breach(rule, own) {
                 return Some(Place {
-                    routine: routine as u16,
+                    routine: index as u16,
                     instruction: i as u16,
                 });
             }
-            start = end;
+            rest = later;
         }
         None
     }

@@ -5,28 +5,13 @@ ghost use Rattle.module.specs.Told.{bytes_of};
 ghost use Rattle.module.specs.Unpack.{entry_of, body_row, entries as entries_of, rows as rows_of, image as image_of, unpacking, entries_after, rows_after};
 
 use crate::checked::Checked;
-use crate::contents::{count_of, signature_of};
+use crate::contents::row_from;
 use crate::entry::Entry;
 use crate::opened::Opened;
-use crate::read::row_from;
-use isa::access::Signature;
 use isa::row::Row;
 use refusal::Refusal;
 
 impl Opened<'_> {
-    fn entry(&self, routine: usize) -> Entry
-        requires { routine < routines (bytes_of self.now) }
-        ensures { result ≡ entry_of (bytes_of self.now) routine }
-    {
-        let count = count_of(self.bytes, routine) as u16;
-        let Signature { arguments, results } = signature_of(self.bytes, routine);
-        Entry {
-            count,
-            arguments,
-            results,
-        }
-    }
-
     // Instruction k of all.
     fn body_row(&self, k: usize) -> Row
         requires { k < total (bytes_of self.now) }
@@ -39,8 +24,8 @@ impl Opened<'_> {
         requires { length entries.old ≡ routines (bytes_of self.now) }
         ensures { entries.new ≡ entries_of (bytes_of self.now) }
     {
-        for r in 0..entries.len() {
-            entries[r] = self.entry(r);
+        for (r, entry) in entries.iter_mut().enumerate() {
+            *entry = self.routine(r).entry();
         }
     }
 
@@ -48,8 +33,8 @@ impl Opened<'_> {
         requires { length rows.old ≡ total (bytes_of self.now) }
         ensures { rows.new ≡ rows_of (bytes_of self.now) }
     {
-        for k in 0..rows.len() {
-            rows[k] = self.body_row(k);
+        for (k, row) in rows.iter_mut().enumerate() {
+            *row = self.body_row(k);
         }
     }
 }
