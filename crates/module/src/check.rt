@@ -1,24 +1,16 @@
-ghost use Rattle.std.specs.Prelude.{◌≡◌, true, length, replicate, OnOk};
+ghost use Rattle.std.specs.Prelude.{◌≡◌, true, length, OnOk};
 ghost use Rattle.refusal.specs.Values.{told};
 ghost use Rattle.module.specs.Accepted.{accepted};
 ghost use Rattle.module.specs.Layout.{routines, total};
 ghost use Rattle.module.specs.Rules.{rules};
 ghost use Rattle.module.specs.Shape.{rows_before};
 ghost use Rattle.module.specs.Told.{bytes_of};
-ghost use Rattle.module.specs.Verdict.{tried, checking, blank, marked, sheet_after};
+ghost use Rattle.module.specs.Verdict.{tried, checking, marked, sheet_after};
 
 use crate::opened::Opened;
 use crate::rule::Rule;
 use crate::shape::ShapeRow;
 use refusal::Refusal;
-
-fn clear_rows(rows: &mut [ShapeRow])
-    ensures { rows.new ≡ replicate (length rows.old) blank }
-{
-    for row in rows.iter_mut() {
-        *row = ShapeRow::BLANK;
-    }
-}
 
 impl Opened<'_> {
     // Tries the rules in turn over filled rows.
@@ -26,15 +18,7 @@ impl Opened<'_> {
         requires { rows.now ≡ rows_before (bytes_of self.now) (routines (bytes_of self.now)) }
         ensures { told result ≡ tried rules (bytes_of self.now) }
     {
-        for rule in [
-            Rule::Form,
-            Rule::Stack,
-            Rule::Callee,
-            Rule::Registers,
-            Rule::Constants,
-            Rule::Target,
-            Rule::Ending,
-        ] {
+        for rule in Rule::ALL {
             if let Some(place) = self.breach(rule, rows) {
                 return Err(rule.broken(place));
             }
@@ -51,7 +35,7 @@ impl Opened<'_> {
         self.fill(rows);
         let verdict = self.try_rules(rows);
         if verdict.is_err() {
-            clear_rows(rows);
+            rows.fill(ShapeRow::BLANK);
         }
         verdict
     }

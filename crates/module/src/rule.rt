@@ -4,7 +4,7 @@ ghost use Rattle.module.specs.Rules.{number};
 
 use refusal::{Place, Refusal};
 
-/// The rules that check tries, in this order.
+/// The rules of check.
 #[derive(Clone, Copy, PartialEq, Eq, Debug)]
 pub enum Rule {
     Form,
@@ -17,6 +17,17 @@ pub enum Rule {
 }
 
 impl Rule {
+    /// All of them, in the order in which check tries them.
+    pub(crate) const ALL: [Rule; 7] = [
+        Rule::Form,
+        Rule::Stack,
+        Rule::Callee,
+        Rule::Registers,
+        Rule::Constants,
+        Rule::Target,
+        Rule::Ending,
+    ];
+
     // The refusal of a module that breaks the rule at a place.
     pub(crate) fn broken(self, place: Place) -> Refusal
         ensures { values_of result ≡ author (number self) place.routine place.instruction }

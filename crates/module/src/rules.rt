@@ -29,19 +29,16 @@ fn stack_holds(depth: u16, instr: Instr) -> bool
 fn span_fits(depth: u16, span: Span) -> bool
     ensures { result ≡ fits depth span }
 {
-    span.first as u16 + span.len as u16 <= depth
-}
-
-fn spans_fit(depth: u16, spans: (Span, Span)) -> bool
-    ensures { result ≡ both (fits depth) spans }
-{
-    span_fits(depth, spans.0) && span_fits(depth, spans.1)
+    u16::from(span.first) + u16::from(span.len) <= depth
 }
 
 fn registers_hold(depth: u16, access: Access) -> bool
     ensures { result ≡ (both (fits depth) access.reads && both (fits depth) access.writes) }
 {
-    spans_fit(depth, access.reads) && spans_fit(depth, access.writes)
+    let Access { reads, writes } = access;
+    [reads.0, reads.1, writes.0, writes.1]
+        .iter()
+        .all(|span| span_fits(depth, *span))
 }
 
 // Whether no constant of the row stands in the span.
@@ -55,13 +52,8 @@ fn span_spared(row: ShapeRow, span: Span) -> bool
 fn constants_hold(row: ShapeRow, access: Access) -> bool
     ensures { (s : List Bool) → row ≡ row_of s → length s ≤ 32 → result ≡ both (spares s) access.writes }
 {
-    span_spared(row, access.writes.0) && span_spared(row, access.writes.1)
-}
-
-fn same_row(there: ShapeRow, here: ShapeRow) -> bool
-    ensures { (s t : List Bool) → there ≡ row_of s → here ≡ row_of t → length s ≤ 32 → length t ≤ 32 → result ≡ same_shape s t }
-{
-    there.depth == here.depth && there.mask == here.mask
+    let (one, other) = access.writes;
+    [one, other].iter().all(|span| span_spared(row, *span))
 }
 
 // Whether a branch from a place of the routine with this row goes where it may.
@@ -69,7 +61,7 @@ fn target_holds(rows: &[ShapeRow], here: ShapeRow, instr: Instr) -> bool
     ensures { (bs : List ℕ) (r : ℕ) (s : List Bool) → rows.now ≡ routine_rows bs r → here ≡ row_of s → length s ≤ 32 → Shallow bs r → result ≡ targets bs r s instr }
 {
     match instr.target() {
-        Some(n) => (n as usize) < rows.len() && same_row(rows[n as usize], here),
+        Some(n) => (n as usize) < rows.len() && rows[n as usize] == here,
         None => true,
     }
 }

@@ -24,7 +24,7 @@ impl ShapeRow {
     {
         ShapeRow {
             depth: self.depth + 1,
-            mask: self.mask,
+            ..self
         }
     }
 
@@ -36,7 +36,7 @@ impl ShapeRow {
         if self.depth >= limits::REGISTERS {
             return ShapeRow {
                 depth: self.depth + 1,
-                mask: self.mask,
+                ..self
             };
         }
         ShapeRow {
@@ -51,10 +51,7 @@ impl ShapeRow {
     {
         let depth = self.depth.saturating_sub(1);
         if depth >= limits::REGISTERS {
-            return ShapeRow {
-                depth,
-                mask: self.mask,
-            };
+            return ShapeRow { depth, ..self };
         }
         ShapeRow {
             depth,

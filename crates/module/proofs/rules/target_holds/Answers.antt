@@ -5,13 +5,14 @@ use Rattle.module.specs.Layout.{count}
 use Rattle.module.specs.Rules.{same_shape}
 use Rattle.module.specs.Shape.{shape}
 use Rattle.module.proofs.Lookup.{rows_long, row_at_lem}
+use Rattle.module.proofs.Spans.{same_rows}
 use Rattle.module.proofs.rules.target_holds.Goals as goal
 
 pub returns-then-n-rows : goal.returns-then-n-rows
 returns-then-n-rows c = λ bs r s e p h k.
     let n = c.in-Some.n in
     let lt : n < count bs r = omega (arith, c.if-n-rows.true, rows_long bs r _ e) in
-    c.same_row.ensures (shape bs r n) s (row_at_lem bs r _ e n lt) p (k n lt) h
+    c.eq.ensures ∙ same_rows _ _ (shape bs r n) s (row_at_lem bs r _ e n lt) p (k n lt) h
     ∙ ap (λ b. b && same_shape (shape bs r n) s) (sym (lt-ltb n (count bs r) lt))
     ∙ ap (passes (λ m. ltb m (count bs r) && same_shape (shape bs r m) s)) c.in-Some.ensures
 
