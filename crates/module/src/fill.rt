@@ -30,6 +30,7 @@ impl Opened<'_> {
         requires { length rows.old ≡ total (bytes_of self.now) }
         ensures { rows.new ≡ rows_before (bytes_of self.now) (routines (bytes_of self.now)) }
     {
+        // By ranges: of parts that split_at_mut splits off in a loop, the proof does not know that they are all of the rows.
         let mut start = 0;
         for index in 0..self.counts.routines {
             let routine = self.routine(index);

@@ -9,6 +9,7 @@ use isa::decode::decode;
 use isa::instr::Instr;
 use isa::row::Row;
 
+// The module, and which of its routines it is.
 #[derive(Clone, Copy)]
 pub(crate) struct Routine<'a> {
     pub(crate) module: &'a Opened<'a>,
