@@ -2,7 +2,8 @@ use Rattle.std.proofs.Common.{◌≡◌, ◌-◌, Err, ap, ◌∙◌, arith}
 use Rattle.std.proofs.lemmas.Result.{err_from_is_err_and}
 use Rattle.refusal.specs.Values.{told, values_of}
 use Rattle.module.specs.Told.{bytes_of}
-use Rattle.module.proofs.Accepts.{accepts_octets, accepts_laid, accepts_kept}
+use Rattle.module.proofs.Accepts.{accepts_checked, accepts_kept}
+use Rattle.module.proofs.Opens.{opened_laid}
 use Rattle.packing.proofs.Trips.{refused_verdict, refused_output, trip_verdict, trip_output}
 use Rattle.packing.proofs.round.repack.Goals as goal
 
@@ -22,9 +23,9 @@ pub returns : goal.returns
 returns c =
     let m = c.args.checked.now in
     let bs = bytes_of m.opened in
-    let small = accepts_octets bs m.keeps in
-    let laid = accepts_laid bs m.keeps in
-    let kept = accepts_kept bs m.keeps in
+    let small = m.opened.octets in
+    let laid = opened_laid m.opened in
+    let kept = accepts_kept bs (accepts_checked m) in
     let said = c.in_ok-routines.ensures in
     let n = c.in_ok-routines.routines in
     let t = c.in_ok-routines.total in

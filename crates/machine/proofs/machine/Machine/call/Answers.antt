@@ -3,7 +3,7 @@ use Rattle.std.proofs.lemmas.Bool.{cond-true, cond-false, lt-ltb, le-ltb, ltb-tr
 use Rattle.isa.specs.declared.access.Signature.{Signature}
 use Rattle.module.specs.Layout.{routines, arguments, signature}
 use Rattle.module.specs.Told.{bytes_of}
-use Rattle.module.proofs.Accepts.{accepts_laid}
+use Rattle.module.proofs.Opens.{opened_laid}
 use Rattle.module.proofs.At.{a_signature}
 use Rattle.machine.specs.Level.{level, copied}
 use Rattle.machine.specs.Nested.{running, waiting}
@@ -19,7 +19,7 @@ trip-requires c =
     let bs = bytes_of c.args.checked.now.opened in
     let s = c.args.self.now.stack in
     let r = ready bs (running s) (waiting s) _ c.requires.able c.requires.stands in
-    let few = low bs (accepts_laid bs c.args.checked.now.keeps) (running s) _ r in
+    let few = low bs (opened_laid c.args.checked.now.opened) (running s) _ r in
     record { running = c.requires.running; routine = few.0; instruction = few.1 }
 
 pub returns-then-callers : goal.returns-then-callers

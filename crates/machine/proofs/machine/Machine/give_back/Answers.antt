@@ -5,7 +5,7 @@ use Rattle.isa.specs.declared.instr.Instr.TheVariants.{Call}
 use Rattle.module.specs.Layout.{routines, results, signature}
 use Rattle.module.specs.Places.{instr_at}
 use Rattle.module.specs.Told.{bytes_of}
-use Rattle.module.proofs.Accepts.{accepts_laid}
+use Rattle.module.proofs.Opens.{opened_laid}
 use Rattle.module.proofs.At.{a_signature}
 use Rattle.machine.specs.Level.{onward, given, values_from}
 use Rattle.machine.specs.Nested.{running, waiting, first_of}
@@ -74,7 +74,7 @@ leave-requires c =
     let count : c.in-Some.signature.results ≡ results bs l.routine = ap (λ (x : Signature). x.results) whole ∙ ap (results bs) c.routine-routine.ensures in
     let given-there : c.args.a + results bs l.routine ≤ length (shape_of l.registers) = r.legal.fit.read in
     let taken-there : w.a + results bs l.routine ≤ length (shape_of g.registers) = w.caller.legal.fit.write in
-    let few = low bs (accepts_laid bs c.args.checked.now.keeps) g _ w.caller in
+    let few = low bs (opened_laid c.args.checked.now.opened) g _ w.caller in
     record {
       sized = record { nested = m.nested; whole = m.whole };
       some = w.some;

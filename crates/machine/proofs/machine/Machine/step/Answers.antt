@@ -5,7 +5,7 @@ use Rattle.isa.specs.declared.instr.Instr.TheVariants.{New, Def, Kill, Mov, Swap
 use Rattle.words.specs.Words.{calculated, divided, passing}
 use Rattle.module.specs.Places.{instr_at}
 use Rattle.module.specs.Told.{bytes_of}
-use Rattle.module.proofs.Accepts.{accepts_laid}
+use Rattle.module.proofs.Opens.{opened_laid}
 use Rattle.host.specs.declared.port.Port.{Port}
 use Rattle.host.specs.Ports.{writing, written}
 use Rattle.host.specs.Refusals.{values_of}
@@ -35,7 +35,7 @@ push-requires g c =
     let x : Instr = New in
     let e = standing bs s c.routine-routine.result c.pc-pc.result x (sym (ap Some c.in-New.is) ∙ c.in-Some.ensures) c.routine-routine.ensures c.pc-pc.ensures in
     let r = ready bs (running s) (waiting s) x c.requires.able e in
-    let few = low bs (accepts_laid bs c.args.checked.now.keeps) (running s) x r in
+    let few = low bs (opened_laid c.args.checked.now.opened) (running s) x r in
     let depth = length-shape (running s).registers in
     let h0 : length (shape_of (running s).registers) ≤ 31 = leb-true (length (shape_of (running s).registers)) 31 r.legal.stacked in
     record { sized = record { nested = m.nested; whole = m.whole }; room = omega arith; place = omega arith }
@@ -48,7 +48,7 @@ push-requires-in-Def g c =
     let x : Instr = Def c.in-Def.n in
     let e = standing bs s c.routine-routine.result c.pc-pc.result x (sym (ap Some c.in-Def.is) ∙ c.in-Some.ensures) c.routine-routine.ensures c.pc-pc.ensures in
     let r = ready bs (running s) (waiting s) x c.requires.able e in
-    let few = low bs (accepts_laid bs c.args.checked.now.keeps) (running s) x r in
+    let few = low bs (opened_laid c.args.checked.now.opened) (running s) x r in
     let depth = length-shape (running s).registers in
     let h0 : length (shape_of (running s).registers) ≤ 31 = leb-true (length (shape_of (running s).registers)) 31 r.legal.stacked in
     record { sized = record { nested = m.nested; whole = m.whole }; room = omega arith; place = omega arith }
@@ -61,7 +61,7 @@ pop-requires g c =
     let x : Instr = Kill in
     let e = standing bs s c.routine-routine.result c.pc-pc.result x (sym (ap Some c.in-Kill.is) ∙ c.in-Some.ensures) c.routine-routine.ensures c.pc-pc.ensures in
     let r = ready bs (running s) (waiting s) x c.requires.able e in
-    let few = low bs (accepts_laid bs c.args.checked.now.keeps) (running s) x r in
+    let few = low bs (opened_laid c.args.checked.now.opened) (running s) x r in
     let depth = length-shape (running s).registers in
     let h0 : 1 ≤ length (shape_of (running s).registers) = leb-true 1 (length (shape_of (running s).registers)) r.legal.stacked in
     record { sized = record { nested = m.nested; whole = m.whole }; some = omega arith; place = omega arith }
@@ -74,7 +74,7 @@ read-v-requires g c =
     let x : Instr = Mov c.in-Mov.a c.in-Mov.b in
     let e = standing bs s c.routine-routine.result c.pc-pc.result x (sym (ap Some c.in-Mov.is) ∙ c.in-Some.ensures) c.routine-routine.ensures c.pc-pc.ensures in
     let r = ready bs (running s) (waiting s) x c.requires.able e in
-    let few = low bs (accepts_laid bs c.args.checked.now.keeps) (running s) x r in
+    let few = low bs (opened_laid c.args.checked.now.opened) (running s) x r in
     let depth = length-shape (running s).registers in
     let h0 : c.in-Mov.b + 1 ≤ length (shape_of (running s).registers) = r.legal.fit.read in
     record { sized = record { nested = m.nested; whole = m.whole }; there = omega arith }
@@ -87,7 +87,7 @@ write-requires g c =
     let x : Instr = Mov c.in-Mov.a c.in-Mov.b in
     let e = standing bs s c.routine-routine.result c.pc-pc.result x (sym (ap Some c.in-Mov.is) ∙ c.in-Some.ensures) c.routine-routine.ensures c.pc-pc.ensures in
     let r = ready bs (running s) (waiting s) x c.requires.able e in
-    let few = low bs (accepts_laid bs c.args.checked.now.keeps) (running s) x r in
+    let few = low bs (opened_laid c.args.checked.now.opened) (running s) x r in
     let depth = length-shape (running s).registers in
     let h0 : c.in-Mov.a + 1 ≤ length (shape_of (running s).registers) = r.legal.fit.write in
     record { sized = record { nested = m.nested; whole = m.whole }; there = omega arith; place = omega arith }
@@ -100,7 +100,7 @@ swap-requires g c =
     let x : Instr = Swap c.in-Swap.a c.in-Swap.b in
     let e = standing bs s c.routine-routine.result c.pc-pc.result x (sym (ap Some c.in-Swap.is) ∙ c.in-Some.ensures) c.routine-routine.ensures c.pc-pc.ensures in
     let r = ready bs (running s) (waiting s) x c.requires.able e in
-    let few = low bs (accepts_laid bs c.args.checked.now.keeps) (running s) x r in
+    let few = low bs (opened_laid c.args.checked.now.opened) (running s) x r in
     let depth = length-shape (running s).registers in
     let h0 : c.in-Swap.a + 1 ≤ length (shape_of (running s).registers) = r.legal.fit.read in
     let h1 : c.in-Swap.b + 1 ≤ length (shape_of (running s).registers) = r.legal.fit.read2 in
@@ -114,7 +114,7 @@ read-requires g c =
     let x : Instr = Calc c.in-Calc.operation c.in-Calc.a c.in-Calc.b c.in-Calc.c in
     let e = standing bs s c.routine-routine.result c.pc-pc.result x (sym (ap Some c.in-Calc.is) ∙ c.in-Some.ensures) c.routine-routine.ensures c.pc-pc.ensures in
     let r = ready bs (running s) (waiting s) x c.requires.able e in
-    let few = low bs (accepts_laid bs c.args.checked.now.keeps) (running s) x r in
+    let few = low bs (opened_laid c.args.checked.now.opened) (running s) x r in
     let depth = length-shape (running s).registers in
     let h0 : c.in-Calc.b + 1 ≤ length (shape_of (running s).registers) = r.legal.fit.read in
     record { sized = record { nested = m.nested; whole = m.whole }; there = omega arith }
@@ -127,7 +127,7 @@ read-requires-in-Calc g c =
     let x : Instr = Calc c.in-Calc.operation c.in-Calc.a c.in-Calc.b c.in-Calc.c in
     let e = standing bs s c.routine-routine.result c.pc-pc.result x (sym (ap Some c.in-Calc.is) ∙ c.in-Some.ensures) c.routine-routine.ensures c.pc-pc.ensures in
     let r = ready bs (running s) (waiting s) x c.requires.able e in
-    let few = low bs (accepts_laid bs c.args.checked.now.keeps) (running s) x r in
+    let few = low bs (opened_laid c.args.checked.now.opened) (running s) x r in
     let depth = length-shape (running s).registers in
     let h0 : c.in-Calc.c + 1 ≤ length (shape_of (running s).registers) = r.legal.fit.read2 in
     record { sized = record { nested = m.nested; whole = m.whole }; there = omega arith }
@@ -140,7 +140,7 @@ write-requires-in-Calc g c =
     let x : Instr = Calc c.in-Calc.operation c.in-Calc.a c.in-Calc.b c.in-Calc.c in
     let e = standing bs s c.routine-routine.result c.pc-pc.result x (sym (ap Some c.in-Calc.is) ∙ c.in-Some.ensures) c.routine-routine.ensures c.pc-pc.ensures in
     let r = ready bs (running s) (waiting s) x c.requires.able e in
-    let few = low bs (accepts_laid bs c.args.checked.now.keeps) (running s) x r in
+    let few = low bs (opened_laid c.args.checked.now.opened) (running s) x r in
     let depth = length-shape (running s).registers in
     let h0 : c.in-Calc.a + 1 ≤ length (shape_of (running s).registers) = r.legal.fit.write in
     record { sized = record { nested = m.nested; whole = m.whole }; there = omega arith; place = omega arith }
@@ -153,7 +153,7 @@ read-requires-in-Divide g c =
     let x : Instr = Divide c.in-Divide.part c.in-Divide.kind c.in-Divide.a c.in-Divide.b c.in-Divide.c in
     let e = standing bs s c.routine-routine.result c.pc-pc.result x (sym (ap Some c.in-Divide.is) ∙ c.in-Some.ensures) c.routine-routine.ensures c.pc-pc.ensures in
     let r = ready bs (running s) (waiting s) x c.requires.able e in
-    let few = low bs (accepts_laid bs c.args.checked.now.keeps) (running s) x r in
+    let few = low bs (opened_laid c.args.checked.now.opened) (running s) x r in
     let depth = length-shape (running s).registers in
     let h0 : c.in-Divide.b + 1 ≤ length (shape_of (running s).registers) = r.legal.fit.read in
     record { sized = record { nested = m.nested; whole = m.whole }; there = omega arith }
@@ -166,7 +166,7 @@ read-requires-in-Divide-2 g c =
     let x : Instr = Divide c.in-Divide.part c.in-Divide.kind c.in-Divide.a c.in-Divide.b c.in-Divide.c in
     let e = standing bs s c.routine-routine.result c.pc-pc.result x (sym (ap Some c.in-Divide.is) ∙ c.in-Some.ensures) c.routine-routine.ensures c.pc-pc.ensures in
     let r = ready bs (running s) (waiting s) x c.requires.able e in
-    let few = low bs (accepts_laid bs c.args.checked.now.keeps) (running s) x r in
+    let few = low bs (opened_laid c.args.checked.now.opened) (running s) x r in
     let depth = length-shape (running s).registers in
     let h0 : c.in-Divide.c + 1 ≤ length (shape_of (running s).registers) = r.legal.fit.read2 in
     record { sized = record { nested = m.nested; whole = m.whole }; there = omega arith }
@@ -179,7 +179,7 @@ write-requires-in-Some-divide g c =
     let x : Instr = Divide c.in-Divide.part c.in-Divide.kind c.in-Divide.a c.in-Divide.b c.in-Divide.c in
     let e = standing bs s c.routine-routine.result c.pc-pc.result x (sym (ap Some c.in-Divide.is) ∙ c.in-Some.ensures) c.routine-routine.ensures c.pc-pc.ensures in
     let r = ready bs (running s) (waiting s) x c.requires.able e in
-    let few = low bs (accepts_laid bs c.args.checked.now.keeps) (running s) x r in
+    let few = low bs (opened_laid c.args.checked.now.opened) (running s) x r in
     let depth = length-shape (running s).registers in
     let h0 : c.in-Divide.a + 1 ≤ length (shape_of (running s).registers) = r.legal.fit.write in
     record { sized = record { nested = m.nested; whole = m.whole }; there = omega arith; place = omega arith }
@@ -192,7 +192,7 @@ trip-requires g c =
     let x : Instr = Divide c.in-Divide.part c.in-Divide.kind c.in-Divide.a c.in-Divide.b c.in-Divide.c in
     let e = standing bs s c.routine-routine.result c.pc-pc.result x (sym (ap Some c.in-Divide.is) ∙ c.in-Some.ensures) c.routine-routine.ensures c.pc-pc.ensures in
     let r = ready bs (running s) (waiting s) x c.requires.able e in
-    let few = low bs (accepts_laid bs c.args.checked.now.keeps) (running s) x r in
+    let few = low bs (opened_laid c.args.checked.now.opened) (running s) x r in
     let depth = length-shape (running s).registers in
     record { running = c.requires.running; routine = few.0; instruction = few.1 }
 
@@ -204,7 +204,7 @@ address-address-requires g c =
     let x : Instr = Load c.in-Load.width c.in-Load.a c.in-Load.b c.in-Load.n in
     let e = standing bs s c.routine-routine.result c.pc-pc.result x (sym (ap Some c.in-Load.is) ∙ c.in-Some.ensures) c.routine-routine.ensures c.pc-pc.ensures in
     let r = ready bs (running s) (waiting s) x c.requires.able e in
-    let few = low bs (accepts_laid bs c.args.checked.now.keeps) (running s) x r in
+    let few = low bs (opened_laid c.args.checked.now.opened) (running s) x r in
     let depth = length-shape (running s).registers in
     let h0 : c.in-Load.b + 1 ≤ length (shape_of (running s).registers) = r.legal.fit.read in
     omega arith
@@ -217,7 +217,7 @@ write-requires-in-Some-load g c =
     let x : Instr = Load c.in-Load.width c.in-Load.a c.in-Load.b c.in-Load.n in
     let e = standing bs s c.routine-routine.result c.pc-pc.result x (sym (ap Some c.in-Load.is) ∙ c.in-Some.ensures) c.routine-routine.ensures c.pc-pc.ensures in
     let r = ready bs (running s) (waiting s) x c.requires.able e in
-    let few = low bs (accepts_laid bs c.args.checked.now.keeps) (running s) x r in
+    let few = low bs (opened_laid c.args.checked.now.opened) (running s) x r in
     let depth = length-shape (running s).registers in
     let h0 : c.in-Load.a + 1 ≤ length (shape_of (running s).registers) = r.legal.fit.write in
     record { sized = record { nested = m.nested; whole = m.whole }; there = omega arith; place = omega arith }
@@ -230,7 +230,7 @@ trip-requires-in-None-load g c =
     let x : Instr = Load c.in-Load.width c.in-Load.a c.in-Load.b c.in-Load.n in
     let e = standing bs s c.routine-routine.result c.pc-pc.result x (sym (ap Some c.in-Load.is) ∙ c.in-Some.ensures) c.routine-routine.ensures c.pc-pc.ensures in
     let r = ready bs (running s) (waiting s) x c.requires.able e in
-    let few = low bs (accepts_laid bs c.args.checked.now.keeps) (running s) x r in
+    let few = low bs (opened_laid c.args.checked.now.opened) (running s) x r in
     let depth = length-shape (running s).registers in
     record { running = c.requires.running; routine = few.0; instruction = few.1 }
 
@@ -242,7 +242,7 @@ address-address-requires-in-Store g c =
     let x : Instr = Store c.in-Store.width c.in-Store.a c.in-Store.b c.in-Store.n in
     let e = standing bs s c.routine-routine.result c.pc-pc.result x (sym (ap Some c.in-Store.is) ∙ c.in-Some.ensures) c.routine-routine.ensures c.pc-pc.ensures in
     let r = ready bs (running s) (waiting s) x c.requires.able e in
-    let few = low bs (accepts_laid bs c.args.checked.now.keeps) (running s) x r in
+    let few = low bs (opened_laid c.args.checked.now.opened) (running s) x r in
     let depth = length-shape (running s).registers in
     let h0 : c.in-Store.b + 1 ≤ length (shape_of (running s).registers) = r.legal.fit.read2 in
     omega arith
@@ -255,7 +255,7 @@ read-v-requires-in-Store g c =
     let x : Instr = Store c.in-Store.width c.in-Store.a c.in-Store.b c.in-Store.n in
     let e = standing bs s c.routine-routine.result c.pc-pc.result x (sym (ap Some c.in-Store.is) ∙ c.in-Some.ensures) c.routine-routine.ensures c.pc-pc.ensures in
     let r = ready bs (running s) (waiting s) x c.requires.able e in
-    let few = low bs (accepts_laid bs c.args.checked.now.keeps) (running s) x r in
+    let few = low bs (opened_laid c.args.checked.now.opened) (running s) x r in
     let depth = length-shape (running s).registers in
     let h0 : c.in-Store.a + 1 ≤ length (shape_of (running s).registers) = r.legal.fit.read in
     record { sized = record { nested = m.nested; whole = m.whole }; there = omega arith }
@@ -268,7 +268,7 @@ skip-requires g c =
     let x : Instr = Store c.in-Store.width c.in-Store.a c.in-Store.b c.in-Store.n in
     let e = standing bs s c.routine-routine.result c.pc-pc.result x (sym (ap Some c.in-Store.is) ∙ c.in-Some.ensures) c.routine-routine.ensures c.pc-pc.ensures in
     let r = ready bs (running s) (waiting s) x c.requires.able e in
-    let few = low bs (accepts_laid bs c.args.checked.now.keeps) (running s) x r in
+    let few = low bs (opened_laid c.args.checked.now.opened) (running s) x r in
     let depth = length-shape (running s).registers in
     record { sized = record { nested = m.nested; whole = m.whole }; place = omega arith }
 
@@ -280,7 +280,7 @@ trip-requires-else-store g c =
     let x : Instr = Store c.in-Store.width c.in-Store.a c.in-Store.b c.in-Store.n in
     let e = standing bs s c.routine-routine.result c.pc-pc.result x (sym (ap Some c.in-Store.is) ∙ c.in-Some.ensures) c.routine-routine.ensures c.pc-pc.ensures in
     let r = ready bs (running s) (waiting s) x c.requires.able e in
-    let few = low bs (accepts_laid bs c.args.checked.now.keeps) (running s) x r in
+    let few = low bs (opened_laid c.args.checked.now.opened) (running s) x r in
     let depth = length-shape (running s).registers in
     record { running = c.requires.running; routine = few.0; instruction = few.1 }
 
@@ -292,7 +292,7 @@ read-requires-in-Branch g c =
     let x : Instr = Branch c.in-Branch.test c.in-Branch.a c.in-Branch.b c.in-Branch.n in
     let e = standing bs s c.routine-routine.result c.pc-pc.result x (sym (ap Some c.in-Branch.is) ∙ c.in-Some.ensures) c.routine-routine.ensures c.pc-pc.ensures in
     let r = ready bs (running s) (waiting s) x c.requires.able e in
-    let few = low bs (accepts_laid bs c.args.checked.now.keeps) (running s) x r in
+    let few = low bs (opened_laid c.args.checked.now.opened) (running s) x r in
     let depth = length-shape (running s).registers in
     let h0 : c.in-Branch.a + 1 ≤ length (shape_of (running s).registers) = r.legal.fit.read in
     record { sized = record { nested = m.nested; whole = m.whole }; there = omega arith }
@@ -305,7 +305,7 @@ read-requires-in-Branch-2 g c =
     let x : Instr = Branch c.in-Branch.test c.in-Branch.a c.in-Branch.b c.in-Branch.n in
     let e = standing bs s c.routine-routine.result c.pc-pc.result x (sym (ap Some c.in-Branch.is) ∙ c.in-Some.ensures) c.routine-routine.ensures c.pc-pc.ensures in
     let r = ready bs (running s) (waiting s) x c.requires.able e in
-    let few = low bs (accepts_laid bs c.args.checked.now.keeps) (running s) x r in
+    let few = low bs (opened_laid c.args.checked.now.opened) (running s) x r in
     let depth = length-shape (running s).registers in
     let h0 : c.in-Branch.b + 1 ≤ length (shape_of (running s).registers) = r.legal.fit.read2 in
     record { sized = record { nested = m.nested; whole = m.whole }; there = omega arith }
@@ -318,7 +318,7 @@ skip-requires-else-passes g c =
     let x : Instr = Branch c.in-Branch.test c.in-Branch.a c.in-Branch.b c.in-Branch.n in
     let e = standing bs s c.routine-routine.result c.pc-pc.result x (sym (ap Some c.in-Branch.is) ∙ c.in-Some.ensures) c.routine-routine.ensures c.pc-pc.ensures in
     let r = ready bs (running s) (waiting s) x c.requires.able e in
-    let few = low bs (accepts_laid bs c.args.checked.now.keeps) (running s) x r in
+    let few = low bs (opened_laid c.args.checked.now.opened) (running s) x r in
     let depth = length-shape (running s).registers in
     record { sized = record { nested = m.nested; whole = m.whole }; place = omega arith }
 
@@ -330,7 +330,7 @@ write-requires-in-Ok g c =
     let x : Instr = Get c.in-Get.a c.in-Get.c in
     let e = standing bs s c.routine-routine.result c.pc-pc.result x (sym (ap Some c.in-Get.is) ∙ c.in-Some.ensures) c.routine-routine.ensures c.pc-pc.ensures in
     let r = ready bs (running s) (waiting s) x c.requires.able e in
-    let few = low bs (accepts_laid bs c.args.checked.now.keeps) (running s) x r in
+    let few = low bs (opened_laid c.args.checked.now.opened) (running s) x r in
     let depth = length-shape (running s).registers in
     let h0 : c.in-Get.a + 1 ≤ length (shape_of (running s).registers) = r.legal.fit.write in
     record { sized = record { nested = m.nested; whole = m.whole }; there = omega arith; place = omega arith }
@@ -343,7 +343,7 @@ trip-requires-in-Err g c =
     let x : Instr = Get c.in-Get.a c.in-Get.c in
     let e = standing bs s c.routine-routine.result c.pc-pc.result x (sym (ap Some c.in-Get.is) ∙ c.in-Some.ensures) c.routine-routine.ensures c.pc-pc.ensures in
     let r = ready bs (running s) (waiting s) x c.requires.able e in
-    let few = low bs (accepts_laid bs c.args.checked.now.keeps) (running s) x r in
+    let few = low bs (opened_laid c.args.checked.now.opened) (running s) x r in
     let depth = length-shape (running s).registers in
     record { running = c.requires.running; routine = few.0; instruction = few.1 }
 
@@ -355,7 +355,7 @@ read-requires-in-Put g c =
     let x : Instr = Put c.in-Put.b c.in-Put.c in
     let e = standing bs s c.routine-routine.result c.pc-pc.result x (sym (ap Some c.in-Put.is) ∙ c.in-Some.ensures) c.routine-routine.ensures c.pc-pc.ensures in
     let r = ready bs (running s) (waiting s) x c.requires.able e in
-    let few = low bs (accepts_laid bs c.args.checked.now.keeps) (running s) x r in
+    let few = low bs (opened_laid c.args.checked.now.opened) (running s) x r in
     let depth = length-shape (running s).registers in
     let h0 : c.in-Put.b + 1 ≤ length (shape_of (running s).registers) = r.legal.fit.read in
     record { sized = record { nested = m.nested; whole = m.whole }; there = omega arith }
@@ -368,7 +368,7 @@ skip-requires-in-Ok-write g c =
     let x : Instr = Put c.in-Put.b c.in-Put.c in
     let e = standing bs s c.routine-routine.result c.pc-pc.result x (sym (ap Some c.in-Put.is) ∙ c.in-Some.ensures) c.routine-routine.ensures c.pc-pc.ensures in
     let r = ready bs (running s) (waiting s) x c.requires.able e in
-    let few = low bs (accepts_laid bs c.args.checked.now.keeps) (running s) x r in
+    let few = low bs (opened_laid c.args.checked.now.opened) (running s) x r in
     let depth = length-shape (running s).registers in
     record { sized = record { nested = m.nested; whole = m.whole }; place = omega arith }
 
@@ -380,7 +380,7 @@ trip-requires-in-Err-write g c =
     let x : Instr = Put c.in-Put.b c.in-Put.c in
     let e = standing bs s c.routine-routine.result c.pc-pc.result x (sym (ap Some c.in-Put.is) ∙ c.in-Some.ensures) c.routine-routine.ensures c.pc-pc.ensures in
     let r = ready bs (running s) (waiting s) x c.requires.able e in
-    let few = low bs (accepts_laid bs c.args.checked.now.keeps) (running s) x r in
+    let few = low bs (opened_laid c.args.checked.now.opened) (running s) x r in
     let depth = length-shape (running s).registers in
     record { running = c.requires.running; routine = few.0; instruction = few.1 }
 
@@ -392,7 +392,7 @@ skip-requires-in-Tick g c =
     let x : Instr = Tick in
     let e = standing bs s c.routine-routine.result c.pc-pc.result x (sym (ap Some c.in-Tick.is) ∙ c.in-Some.ensures) c.routine-routine.ensures c.pc-pc.ensures in
     let r = ready bs (running s) (waiting s) x c.requires.able e in
-    let few = low bs (accepts_laid bs c.args.checked.now.keeps) (running s) x r in
+    let few = low bs (opened_laid c.args.checked.now.opened) (running s) x r in
     let depth = length-shape (running s).registers in
     record { sized = record { nested = m.nested; whole = m.whole }; place = omega arith }
 

@@ -1,5 +1,6 @@
 use Rattle.std.proofs.Common.{[], sym}
 use Rattle.module.specs.Told.{bytes_of}
+use Rattle.module.proofs.Accepts.{accepts_checked}
 use Rattle.machine.proofs.Runs.{any_ports, has_step, stays_sound}
 use Rattle.machine.proofs.Soundness.{never_stuck}
 use Rattle.machine_cases.proofs.rig.Rig.advance.Goals as goal
@@ -9,13 +10,13 @@ step-requires g c =
     let rig = c.args.self.now in
     let bs = bytes_of rig.checked.opened in
     let run = sym c.in-Running.ensures.state in
-    record { running = run; able = has_step bs (never_stuck bs rig.checked.keeps) rig.machine [] rig.sound run }
+    record { running = run; able = has_step bs (never_stuck bs (accepts_checked rig.checked)) rig.machine [] rig.sound run }
 
 pub invariant_of-self : goal.invariant_of-self
 invariant_of-self g c =
     let rig = c.args.self.now in
     let bs = bytes_of rig.checked.opened in
-    let never = never_stuck bs rig.checked.keeps in
+    let never = never_stuck bs (accepts_checked rig.checked) in
     let ports = g.H.Host.ports c.args.host.now in
     let before = any_ports bs rig.machine [] ports rig.sound in
     let run = sym c.in-Running.ensures.state in
