@@ -1,7 +1,7 @@
 //! The most that there may be of everything.
 
 ghost use Rattle.std.specs.Prelude.{◌≡◌, ℕ, true, List, take, is_ok};
-ghost use Rattle.module.specs.Layout.{opening};
+ghost use Rattle.module.specs.Layout.{allowed, opening};
 
 pub const ROUTINES: usize = 64;
 
@@ -14,6 +14,13 @@ pub const ARGUMENTS: u8 = 32;
 pub const RESULTS: u8 = 8;
 
 pub const REGISTERS: u16 = 32;
+
+/// Whether a module may have so many routines and an image of such a length.
+pub fn allow(routines: usize, image: usize) -> bool
+    ensures { result ≡ allowed routines image }
+{
+    routines >= 1 && routines <= ROUTINES && image <= IMAGE
+}
 
 // The length of the longest module in bytes.
 const LENGTH: usize = 4 + 8 * ROUTINES + 8 * INSTRUCTIONS + IMAGE;

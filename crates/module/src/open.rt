@@ -44,7 +44,7 @@ pub fn open(bytes: &[u8]) -> Result<Opened<'_>, Refusal>
     }
     let routines = usize::from(read_two(bytes, 0));
     let image = usize::from(read_two(bytes, 2));
-    if routines < 1 || routines > limits::ROUTINES || image > limits::IMAGE {
+    if !limits::allow(routines, image) {
         return Err(Refusal::Counts);
     }
     if bytes.len() < 4 + 8 * routines {

@@ -1,4 +1,4 @@
-ghost use Rattle.std.specs.Prelude.{◌≡◌, ◌-◌, ◌<◌, Bool, true, false, List, [], ◌∷◌, ◌++◌, length, take};
+ghost use Rattle.std.specs.Prelude.{◌≡◌, ◌-◌, ◌<◌, Bool, List, [], ◌∷◌, ◌++◌, length, take};
 ghost use Rattle.module.specs.Shape.{after, row_of};
 
 use crate::limits;
@@ -17,32 +17,19 @@ impl ShapeRow {
     /// No registers.
     pub const BLANK: ShapeRow = ShapeRow { depth: 0, mask: 0 };
 
-    // With one more register, a variable.
-    fn with_variable(self) -> ShapeRow
+    // With one more register, a constant or a variable.
+    fn with_register(self, constant: bool) -> ShapeRow
         requires { self.depth < 65535 }
-        ensures { (s : List Bool) → self ≡ row_of s → result ≡ row_of (s ++ (false ∷ [])) }
+        ensures { (s : List Bool) → self ≡ row_of s → result ≡ row_of (s ++ (constant ∷ [])) }
     {
-        ShapeRow {
-            depth: self.depth + 1,
-            ..self
-        }
-    }
-
-    // With one more register, a constant.
-    fn with_constant(self) -> ShapeRow
-        requires { self.depth < 65535 }
-        ensures { (s : List Bool) → self ≡ row_of s → result ≡ row_of (s ++ (true ∷ [])) }
-    {
-        if self.depth >= limits::REGISTERS {
+        let depth = self.depth + 1;
+        if constant && self.depth < limits::REGISTERS {
             return ShapeRow {
-                depth: self.depth + 1,
-                ..self
+                depth,
+                mask: self.mask | 1 << self.depth,
             };
         }
-        ShapeRow {
-            depth: self.depth + 1,
-            mask: self.mask | 1 << self.depth,
-        }
+        ShapeRow { depth, ..self }
     }
 
     // Without its top register, if it has one.
@@ -65,8 +52,8 @@ impl ShapeRow {
         ensures { (s : List Bool) → self ≡ row_of s → result ≡ row_of (after instr s) }
     {
         match instr {
-            Some(Instr::New) => self.with_variable(),
-            Some(Instr::Def { .. }) => self.with_constant(),
+            Some(Instr::New) => self.with_register(false),
+            Some(Instr::Def { .. }) => self.with_register(true),
             Some(Instr::Kill) => self.without_top(),
             _ => self,
         }
