@@ -19,7 +19,7 @@ pub const REGISTERS: u16 = 32;
 pub fn allow(routines: usize, image: usize) -> bool
     ensures { result ≡ allowed routines image }
 {
-    routines >= 1 && routines <= ROUTINES && image <= IMAGE
+    (1..=ROUTINES).contains(&routines) && image <= IMAGE
 }
 
 // The length of the longest module in bytes.
