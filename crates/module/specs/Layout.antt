@@ -61,11 +61,11 @@ abbrev pub instr : List ℕ → ℕ → ℕ → Option Instr
 instr bs r i = decoded (row_at bs r i)
 
 -- a module may have n routines and an image of d bytes
-abbrev pub allowed : ℕ → ℕ → Bool
-allowed n d = nat_le 1 n && (nat_le n 64 && nat_le d 4096)
+abbrev pub admitted : ℕ → ℕ → Bool
+admitted n d = nat_le 1 n && (nat_le n 64 && nat_le d 4096)
 
 abbrev pub counts_right : List ℕ → Bool
-counts_right bs = allowed (routines bs) (image_length bs)
+counts_right bs = admitted (routines bs) (image_length bs)
 
 -- An entry may be that of routine r, after so many instructions in the routines before.
 abbrev pub right : Entry → ℕ → ℕ → Bool

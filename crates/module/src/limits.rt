@@ -1,7 +1,7 @@
 //! The most that there may be of everything.
 
 ghost use Rattle.std.specs.Prelude.{◌≡◌, ℕ, true, List, take, is_ok};
-ghost use Rattle.module.specs.Layout.{allowed, opening};
+ghost use Rattle.module.specs.Layout.{admitted, opening};
 
 pub const ROUTINES: usize = 64;
 
@@ -16,8 +16,8 @@ pub const RESULTS: u8 = 8;
 pub const REGISTERS: u16 = 32;
 
 /// Whether a module may have so many routines and an image of such a length.
-pub fn allow(routines: usize, image: usize) -> bool
-    ensures { result ≡ allowed routines image }
+pub fn admit(routines: usize, image: usize) -> bool
+    ensures { result ≡ admitted routines image }
 {
     (1..=ROUTINES).contains(&routines) && image <= IMAGE
 }

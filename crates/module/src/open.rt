@@ -44,7 +44,7 @@ pub fn open(bytes: &[u8]) -> Result<Opened<'_>, Refusal>
     }
     let routines = usize::from(read_two(bytes, 0));
     let image = usize::from(read_two(bytes, 2));
-    if !limits::allow(routines, image) {
+    if !limits::admit(routines, image) {
         return Err(Refusal::Counts);
     }
     if bytes.len() < 4 + 8 * routines {

@@ -1,9 +1,8 @@
 use Rattle.std.proofs.Common.{◌≡◌, ◌≤◌, ◌++◌, length, sym, ap, ◌∙◌, add-one, arith}
-use Rattle.std.proofs.lemmas.List.{take_all}
 use Rattle.std.proofs.lemmas.Slice.{take-put_mid}
-use Rattle.module.specs.Layout.{routines, count, before}
+use Rattle.module.specs.Layout.{count, before}
 use Rattle.module.specs.Shape.{routine_rows, rows_before}
-use Rattle.module.proofs.Opens.{opened_laid, opened_entry, opened_routines}
+use Rattle.module.proofs.Opens.{opened_laid, opened_entry}
 use Rattle.module.proofs.opened.Opened.fill.Goals as goal
 use Rattle.module.proofs.opened.Opened.fill.Goals.{After-count}
 
@@ -40,10 +39,3 @@ loop-index-preserved c =
           ∙ (λ i. c.loop-index.invariant.1 i ++ own i)
           ∙ ap (rows_before bs) (sym (add-one r)),
     )
-
-pub returns : goal.returns
-returns c =
-    let bs = c.args.self.now.bytes.now in
-    let n : c.loop-index.index ≡ routines bs = omega (arith, opened_routines c.args.self.now) in
-    sym (take_all c.loop-index.start c.loop-index.rows (omega (arith, c.requires, c.loop-index.invariant.0, ap (before bs) n)))
-    ∙ c.loop-index.invariant.1 ∙ ap (rows_before bs) n

@@ -3,12 +3,8 @@ use Rattle.std.proofs.lemmas.List.FromFn.{fill_by_all}
 use Rattle.module.specs.Layout.{total}
 use Rattle.module.specs.Told.{bytes_of}
 use Rattle.module.specs.Unpack.{body_row}
-use Rattle.module.proofs.Unpacks.{no_row, writes_more}
+use Rattle.module.proofs.Unpacks.{no_row}
 use Rattle.module.proofs.opened.Opened.write_rows.Goals as goal
-
-pub loop-k-preserved : goal.loop-k-preserved
-loop-k-preserved c =
-    writes_more (body_row (bytes_of c.args.self.now)) c.loop-k.rows c.loop-k.k no_row _ (omega arith) c.loop-k.invariant c.body_row.ensures
 
 pub returns : goal.returns
 returns c =
