@@ -88,13 +88,6 @@ rules_hold bs h =
       | Ending ↦ everywhere Ending bs g.0
     ]
 
-ok_is : (r : Result (Unit {0}) Values) → is_ok r ≡ true → r ≡ Ok tt
-ok_is (Ok u) h = refl
-ok_is (Err e) h = absurd (false≢true h)
-
-pub accepts_tried : (bs : List ℕ) → accepted bs ≡ true → tried rules bs ≡ Ok tt
-accepts_tried bs h = ok_is (tried rules bs) (parts bs h).2
-
 pub accepts_rules : (bs : List ℕ) → accepted bs ≡ true → (q : Rule) → Everywhere q bs
 accepts_rules bs h = rules_hold bs (parts bs h).2
 

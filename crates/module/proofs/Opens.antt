@@ -1,6 +1,6 @@
 -- Bytes that pass the opening tests are laid out as the rules say.
-use Rattle.std.proofs.Common.{◌≡◌, ◌⊎◌, inl, inr, ℕ, suc, ◌+◌, ◌-◌, ◌*◌, ◌<◌, ◌≤◌, Bool, true, false, ◌&&◌, eqb, leb, List, length, is_ok, Some, None, Ok, Err, Option, Result, sym, refl, ap, ◌∙◌, arith}
-use Rattle.std.proofs.lemmas.Bool.{and_left, and_right, and_from, eq-eqb, ne_eqb, cond-true, cond-false, le-leb, lt-leb, eqb-true, false≢true}
+use Rattle.std.proofs.Common.{◌≡◌, ℕ, suc, ◌+◌, ◌-◌, ◌*◌, ◌<◌, ◌≤◌, Bool, true, false, ◌&&◌, eqb, leb, List, length, is_ok, Some, None, Ok, Option, Result, sym, refl, ap, ◌∙◌, arith}
+use Rattle.std.proofs.lemmas.Bool.{and_left, and_right, and_from, eq-eqb, ne_eqb, cond-true, eqb-true, false≢true}
 use Rattle.std.proofs.lemmas.Bool.Decides.{nat_tests}
 use Rattle.refusal.specs.Values.{Values, author}
 use Rattle.module.specs.declared.entry.Entry.{Entry}
@@ -10,7 +10,7 @@ use Rattle.module.specs.declared.routine.Routine.{Routine}
 use Rattle.module.specs.First.{first_failing}
 use Rattle.module.specs.Laid.{Entered, Laid}
 use Rattle.module.specs.Layout.{right as right_of}
-use Rattle.module.specs.Layout.{entry_of, routines, image_length, offset, count, arguments, results, before, total, length_given, counts, counts_right, entry_right, provided, unless_wrong, opening}
+use Rattle.module.specs.Layout.{entry_of, routines, image_length, offset, count, arguments, results, before, length_given, counts, counts_right, entry_right, provided, unless_wrong, opening}
 use Rattle.module.specs.Told.{bytes_of, bytes_in}
 use Rattle.module.proofs.Firsts.{first_none, sum_mono}
 
@@ -103,9 +103,6 @@ module _ (o : Opened) where
   pub opened_routines : o.counts.routines ≡ routines (bytes_of o)
   opened_routines = ap (λ x. x.routines) opened_counts
 
-  pub opened_total : o.counts.total ≡ total (bytes_of o)
-  opened_total = ap (λ x. x.total) opened_counts
-
   pub opened_entry : (r : ℕ) → r < o.counts.routines → Entered (bytes_of o) r
   opened_entry r h = opened_laid.entry r (omega (arith, opened_routines))
 
@@ -129,16 +126,3 @@ module _ (bs : List ℕ) (n r sum at : ℕ) (e : Entry) (en : n ≡ routines bs)
 
   pub entry_passed : at ≡ 4 + 8 * n + 8 * sum → right_of e r sum ≡ true → entry_right bs r ≡ true
   entry_passed p h = sym entry_read ∙ and_from _ _ (eq-eqb at _ p) h
-
--- n routines and an image of d bytes are out of range: there is no routine, there are more than 64, or the image is too long
-counts_out : (bs : List ℕ) (n d : ℕ) → n ≡ routines bs → d ≡ image_length bs →
-    (n < 1) ⊎ ((1 ≤ n) × (64 < n)) ⊎ ((1 ≤ n) × (n ≤ 64) × (4096 < d)) → counts_right bs ≡ false
-counts_out bs n d en ed (inl h) = and_left _ _ (lt-leb 1 (routines bs) (omega arith))
-counts_out bs n d en ed (inr (inl h)) = and_right _ _ (and_left _ _ (lt-leb (routines bs) 64 (omega arith)))
-counts_out bs n d en ed (inr (inr h)) = and_right _ _ (and_right _ _ (lt-leb (image_length bs) 4096 (omega arith)))
-
--- what open answers then
-pub counts_refused : (bs : List ℕ) (n d : ℕ) → n ≡ routines bs → d ≡ image_length bs → 4 ≤ length bs →
-    (n < 1) ⊎ ((1 ≤ n) × (64 < n)) ⊎ ((1 ≤ n) × (n ≤ 64) × (4096 < d)) → Err (author 2 0 0) ≡ opening bs
-counts_refused bs n d en ed long out =
-    sym (cond-true (leb 4 (length bs)) _ _ (le-leb 4 (length bs) long) ∙ cond-false (counts_right bs) _ _ (counts_out bs n d en ed out))
