@@ -33,16 +33,3 @@ pub fn verdict(bytes: &[u8]) -> Answer {
     let mut sheet = [ShapeRow::BLANK; 64];
     answer(bytes, &mut sheet)
 }
-
-/// Whether two slices hold the same.
-pub fn same<T: PartialEq>(some: &[T], others: &[T]) -> bool {
-    if some.len() != others.len() {
-        return false;
-    }
-    for i in 0..some.len() {
-        if some[i] != others[i] {
-            return false;
-        }
-    }
-    true
-}

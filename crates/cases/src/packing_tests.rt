@@ -1,10 +1,10 @@
-use crate::answers::same;
 use crate::build::RAMP;
 use isa::row::Row;
 use module::entry::Entry;
 use module::open::open;
 use module::shape::ShapeRow;
 use packing::pack::pack;
+use packing::parts::Parts;
 use packing::round::{recover, repack};
 use refusal::{Place, Refusal};
 use std::process::Abort;
@@ -61,16 +61,26 @@ fn ramp_rows() -> [Row; 6] {
     ]
 }
 
-// The parts of the module of two routines.
+// What the module of two routines is made of.
 #[derive(Clone, Copy)]
-struct Parts {
+struct TwoRoutines {
     entries: [Entry; 2],
     rows: [Row; 11],
     image: [u8; 3],
 }
 
-fn two_routines() -> Parts {
-    Parts {
+impl TwoRoutines {
+    fn parts(&self) -> Parts<'_> {
+        Parts {
+            entries: &self.entries,
+            rows: &self.rows,
+            image: &self.image,
+        }
+    }
+}
+
+fn two_routines() -> TwoRoutines {
+    TwoRoutines {
         entries: [entry(8, 0, 0), entry(3, 2, 1)],
         rows: [
             row(0, 0, 0, 0, 0),
@@ -121,10 +131,10 @@ fn unpack_with_room_for_three_more(rt: HostRuntime) {
     let mut entries = [OTHER_ENTRY; 4];
     let mut rows = [OTHER_ROW; 9];
     assert_eq!(rt; unpack(&RAMP, &mut entries, &mut rows), Ok((1, 6)));
-    assert!(rt; same(&entries[0..1], &[entry(6, 0, 0)]));
-    assert!(rt; same(&entries[1..4], &[OTHER_ENTRY; 3]));
-    assert!(rt; same(&rows[0..6], &ramp_rows()));
-    assert!(rt; same(&rows[6..9], &[OTHER_ROW; 3]));
+    assert!(rt; entries[0..1] == [entry(6, 0, 0)]);
+    assert!(rt; entries[1..4] == [OTHER_ENTRY; 3]);
+    assert!(rt; rows[0..6] == ramp_rows()[..]);
+    assert!(rt; rows[6..9] == [OTHER_ROW; 3]);
 }
 
 #[test]
@@ -132,10 +142,10 @@ fn unpack_as_in_the_documents(rt: HostRuntime) {
     let mut entries = [OTHER_ENTRY; 4];
     let mut rows = [OTHER_ROW; 12];
     assert_eq!(rt; unpack(&TWO_ROUTINES, &mut entries, &mut rows), Ok((2, 11)));
-    assert!(rt; same(&entries[0..2], &two_routines().entries));
-    assert!(rt; same(&entries[2..4], &[OTHER_ENTRY; 2]));
-    assert!(rt; same(&rows[0..11], &two_routines().rows));
-    assert!(rt; same(&rows[11..12], &[OTHER_ROW]));
+    assert!(rt; entries[0..2] == two_routines().entries[..]);
+    assert!(rt; entries[2..4] == [OTHER_ENTRY; 2]);
+    assert!(rt; rows[0..11] == two_routines().rows[..]);
+    assert!(rt; rows[11..12] == [OTHER_ROW]);
 }
 
 #[test]
@@ -143,8 +153,8 @@ fn unpack_with_just_enough_room(rt: HostRuntime) {
     let mut entries = [OTHER_ENTRY; 2];
     let mut rows = [OTHER_ROW; 11];
     assert_eq!(rt; unpack(&TWO_ROUTINES, &mut entries, &mut rows), Ok((2, 11)));
-    assert!(rt; same(&entries, &two_routines().entries));
-    assert!(rt; same(&rows, &two_routines().rows));
+    assert!(rt; entries == two_routines().entries);
+    assert!(rt; rows == two_routines().rows);
 }
 
 #[test]
@@ -157,10 +167,10 @@ fn unpack_with_one_too_few_changes_nothing(rt: HostRuntime) {
     assert_eq!(rt; unpack(&TWO_ROUTINES, &mut one, &mut rows), short);
     assert_eq!(rt; unpack(&TWO_ROUTINES, &mut entries, &mut ten), short);
     assert_eq!(rt; unpack(&TWO_ROUTINES, &mut [], &mut []), short);
-    assert!(rt; same(&one, &[OTHER_ENTRY; 1]));
-    assert!(rt; same(&rows, &[OTHER_ROW; 11]));
-    assert!(rt; same(&entries, &[OTHER_ENTRY; 2]));
-    assert!(rt; same(&ten, &[OTHER_ROW; 10]));
+    assert!(rt; one == [OTHER_ENTRY; 1]);
+    assert!(rt; rows == [OTHER_ROW; 11]);
+    assert!(rt; entries == [OTHER_ENTRY; 2]);
+    assert!(rt; ten == [OTHER_ROW; 10]);
 }
 
 #[test]
@@ -168,7 +178,7 @@ fn the_image_is_the_end_of_the_bytes(rt: HostRuntime) -> Result<(), Fail> {
     let Ok(image) = show_image(&TWO_ROUTINES) else {
         return Err(Fail::new("the module is accepted"));
     };
-    assert!(rt; same(image, &[0xDC, 0x05, 0xC8]));
+    assert!(rt; image[..] == [0xDC, 0x05, 0xC8]);
     let Ok(none) = show_image(&RAMP) else {
         return Err(Fail::new("the ramp is accepted"));
     };
@@ -179,44 +189,39 @@ fn the_image_is_the_end_of_the_bytes(rt: HostRuntime) -> Result<(), Fail> {
 #[test]
 fn pack_with_room_for_three_more(rt: HostRuntime) {
     let mut output = [OTHER_BYTE; 63];
-    let size = pack(&[entry(6, 0, 0)], &ramp_rows(), &[], &mut output);
-    assert_eq!(rt; size, Ok(60));
-    assert!(rt; same(&output[0..60], &RAMP));
-    assert!(rt; same(&output[60..63], &[OTHER_BYTE; 3]));
+    let parts = Parts {
+        entries: &[entry(6, 0, 0)],
+        rows: &ramp_rows(),
+        image: &[],
+    };
+    assert_eq!(rt; pack(parts, &mut output), Ok(60));
+    assert!(rt; output[0..60] == RAMP[..]);
+    assert!(rt; output[60..63] == [OTHER_BYTE; 3]);
 }
 
 #[test]
 fn pack_as_in_the_documents(rt: HostRuntime) {
-    let Parts {
-        entries,
-        rows,
-        image,
-    } = two_routines();
     let mut output = [OTHER_BYTE; 113];
-    assert_eq!(rt; pack(&entries, &rows, &image, &mut output), Ok(111));
-    assert!(rt; same(&output[0..111], &TWO_ROUTINES));
-    assert!(rt; same(&output[111..113], &[OTHER_BYTE; 2]));
+    assert_eq!(rt; pack(two_routines().parts(), &mut output), Ok(111));
+    assert!(rt; output[0..111] == TWO_ROUTINES[..]);
+    assert!(rt; output[111..113] == [OTHER_BYTE; 2]);
 }
 
 #[test]
 fn pack_with_just_enough_room_and_one_byte_less(rt: HostRuntime) {
-    let Parts {
-        entries,
-        rows,
-        image,
-    } = two_routines();
+    let module = two_routines();
     let mut output = [OTHER_BYTE; 111];
-    let short = pack(&entries, &rows, &image, &mut output[0..110]);
+    let short = pack(module.parts(), &mut output[0..110]);
     assert_eq!(rt; short, Err(Refusal::Room));
-    assert!(rt; same(&output, &[OTHER_BYTE; 111]));
-    assert_eq!(rt; pack(&entries, &rows, &image, &mut output), Ok(111));
-    assert!(rt; same(&output, &TWO_ROUTINES));
+    assert!(rt; output == [OTHER_BYTE; 111]);
+    assert_eq!(rt; pack(module.parts(), &mut output), Ok(111));
+    assert!(rt; output == TWO_ROUTINES);
 }
 
-fn refused(rt: &impl Abort, entries: &[Entry], rows: &[Row], image: &[u8], wanted: Refusal) {
+fn refused(rt: &impl Abort, parts: Parts<'_>, wanted: Refusal) {
     let mut output = [OTHER_BYTE; 113];
-    assert_eq!(rt; pack(entries, rows, image, &mut output), Err(wanted));
-    assert!(rt; same(&output, &[OTHER_BYTE; 113]));
+    assert_eq!(rt; pack(parts, &mut output), Err(wanted));
+    assert!(rt; output == [OTHER_BYTE; 113]);
 }
 
 fn place(routine: u16, instruction: u16) -> Place {
@@ -226,18 +231,34 @@ fn place(routine: u16, instruction: u16) -> Place {
     }
 }
 
+// These parts, but for the entries or the rows.
+fn with_entries<'a>(parts: Parts<'a>, entries: &'a [Entry]) -> Parts<'a> {
+    Parts { entries, ..parts }
+}
+
+fn with_rows<'a>(parts: Parts<'a>, rows: &'a [Row]) -> Parts<'a> {
+    Parts { rows, ..parts }
+}
+
 #[test]
 fn pack_refuses_counts(rt: HostRuntime) {
-    let Parts { rows, image, .. } = two_routines();
-    let wrong = [entry(8, 0, 0), entry(0, 2, 1)];
-    refused(&rt, &[], &rows, &image, Refusal::Counts);
-    refused(&rt, &[entry(1, 0, 0); 65], &rows, &image, Refusal::Counts);
-    refused(&rt, &wrong, &rows, &[0; 4097], Refusal::Counts);
+    let module = two_routines();
+    let parts = module.parts();
+    let many = [entry(1, 0, 0); 65];
+    refused(&rt, with_entries(parts, &[]), Refusal::Counts);
+    refused(&rt, with_entries(parts, &many), Refusal::Counts);
+    let wrong = Parts {
+        entries: &[entry(8, 0, 0), entry(0, 2, 1)],
+        rows: &module.rows,
+        image: &[0; 4097],
+    };
+    refused(&rt, wrong, Refusal::Counts);
 }
 
 #[test]
 fn pack_refuses_the_first_wrong_entry(rt: HostRuntime) {
-    let Parts { rows, image, .. } = two_routines();
+    let module = two_routines();
+    let parts = module.parts();
     for second in [
         entry(0, 2, 1),
         entry(3, 33, 1),
@@ -245,48 +266,48 @@ fn pack_refuses_the_first_wrong_entry(rt: HostRuntime) {
         entry(4089, 2, 1),
     ] {
         let entries = [entry(8, 0, 0), second];
-        refused(&rt, &entries, &rows, &image, Refusal::Entry(1));
+        refused(&rt, with_entries(parts, &entries), Refusal::Entry(1));
     }
     let third = [entry(8, 0, 0), entry(3, 2, 1), OTHER_ENTRY, entry(0, 0, 0)];
-    refused(&rt, &third, &rows, &image, Refusal::Entry(2));
+    refused(&rt, with_entries(parts, &third), Refusal::Entry(2));
 }
 
 #[test]
 fn pack_refuses_a_row_count_at_the_last_routine(rt: HostRuntime) {
-    let Parts {
-        entries,
-        rows,
-        image,
-    } = two_routines();
+    let module = two_routines();
+    let parts = module.parts();
     let more = [entry(8, 0, 0), entry(3, 2, 1), entry(1, 0, 0)];
-    refused(&rt, &more, &rows, &image, Refusal::Entry(2));
+    refused(&rt, with_entries(parts, &more), Refusal::Entry(2));
     let fewer = [entry(7, 0, 0), entry(3, 2, 1)];
-    refused(&rt, &fewer, &rows, &image, Refusal::Entry(1));
-    refused(&rt, &entries, &rows[0..10], &image, Refusal::Entry(1));
+    refused(&rt, with_entries(parts, &fewer), Refusal::Entry(1));
+    refused(
+        &rt,
+        with_rows(parts, &module.rows[0..10]),
+        Refusal::Entry(1),
+    );
     // and rows are not looked at
-    refused(&rt, &entries, &[OTHER_ROW; 12], &image, Refusal::Entry(1));
+    let rows = [OTHER_ROW; 12];
+    refused(&rt, with_rows(parts, &rows), Refusal::Entry(1));
     // a wrong entry comes first
     let wrong = [entry(0, 0, 0), entry(3, 2, 1)];
-    refused(&rt, &wrong, &[], &image, Refusal::Entry(0));
+    let parts = with_entries(with_rows(parts, &[]), &wrong);
+    refused(&rt, parts, Refusal::Entry(0));
 }
 
 #[test]
 fn pack_refuses_the_first_row_that_is_not_well_formed(rt: HostRuntime) {
-    let Parts {
-        entries,
-        mut rows,
-        image,
-    } = two_routines();
-    rows[10] = row(23, 0, 1, 0, 0);
-    refused(&rt, &entries, &rows, &image, Refusal::Form(place(1, 2)));
-    rows[9] = row(3, 0, 1, 0, 1);
-    refused(&rt, &entries, &rows, &image, Refusal::Form(place(1, 1)));
-    let short = pack(&entries, &rows, &image, &mut [OTHER_BYTE; 110]);
+    let mut module = two_routines();
+    module.rows[10] = row(23, 0, 1, 0, 0);
+    refused(&rt, module.parts(), Refusal::Form(place(1, 2)));
+    module.rows[9] = row(3, 0, 1, 0, 1);
+    refused(&rt, module.parts(), Refusal::Form(place(1, 1)));
+    let short = pack(module.parts(), &mut [OTHER_BYTE; 110]);
     assert_eq!(rt; short, Err(Refusal::Form(place(1, 1))));
     let moved = [entry(7, 0, 0), entry(4, 2, 1)];
-    refused(&rt, &moved, &rows, &image, Refusal::Form(place(1, 2)));
-    rows[6] = row(27, 0, 0, 0, 0);
-    refused(&rt, &entries, &rows, &image, Refusal::Form(place(0, 6)));
+    let parts = with_entries(module.parts(), &moved);
+    refused(&rt, parts, Refusal::Form(place(1, 2)));
+    module.rows[6] = row(27, 0, 0, 0, 0);
+    refused(&rt, module.parts(), Refusal::Form(place(0, 6)));
 }
 
 #[test]
@@ -296,10 +317,10 @@ fn repack_gives_the_bytes_back(rt: HostRuntime) {
     let mut output = [OTHER_BYTE; 114];
     let size = repack_bytes(&TWO_ROUTINES, &mut entries, &mut rows, &mut output);
     assert_eq!(rt; size, Ok(111));
-    assert!(rt; same(&output[0..111], &TWO_ROUTINES));
-    assert!(rt; same(&output[111..114], &[OTHER_BYTE; 3]));
-    assert!(rt; same(&entries[2..5], &[OTHER_ENTRY; 3]));
-    assert!(rt; same(&rows[11..14], &[OTHER_ROW; 3]));
+    assert!(rt; output[0..111] == TWO_ROUTINES[..]);
+    assert!(rt; output[111..114] == [OTHER_BYTE; 3]);
+    assert!(rt; entries[2..5] == [OTHER_ENTRY; 3]);
+    assert!(rt; rows[11..14] == [OTHER_ROW; 3]);
 }
 
 #[test]
@@ -313,14 +334,14 @@ fn repack_with_one_too_few(rt: HostRuntime) {
         repack_bytes(&TWO_ROUTINES, &mut entries, &mut few, &mut output),
         room
     );
-    assert!(rt; same(&entries, &[OTHER_ENTRY; 2]));
-    assert!(rt; same(&few, &[OTHER_ROW; 10]));
+    assert!(rt; entries == [OTHER_ENTRY; 2]);
+    assert!(rt; few == [OTHER_ROW; 10]);
     assert_eq!(rt;
         repack_bytes(&TWO_ROUTINES, &mut entries, &mut rows, &mut output),
         room
     );
-    assert!(rt; same(&output, &[OTHER_BYTE; 110]));
-    assert!(rt; same(&rows, &two_routines().rows));
+    assert!(rt; output == [OTHER_BYTE; 110]);
+    assert!(rt; rows == two_routines().rows);
 }
 
 // Packs 64 routines of one RET with an image, and takes them back.
@@ -331,20 +352,23 @@ fn many_routines(rt: &impl Abort, image: &[u8], size: usize) -> Result<(), Fail>
     let mut sheet = [ShapeRow::BLANK; 64];
     let mut back_entries = [OTHER_ENTRY; 67];
     let mut back_rows = [OTHER_ROW; 67];
-    let back = recover(
-        &entries,
-        &rows,
+    let parts = Parts {
+        entries: &entries,
+        rows: &rows,
         image,
+    };
+    let back = recover(
+        parts,
         &mut output,
         &mut sheet,
         &mut back_entries,
         &mut back_rows,
     );
     assert_eq!(rt; back, Ok((64, 64)));
-    assert!(rt; same(&back_entries[0..64], &entries));
-    assert!(rt; same(&back_entries[64..67], &[OTHER_ENTRY; 3]));
-    assert!(rt; same(&back_rows[0..64], &rows));
-    assert!(rt; same(&back_rows[64..67], &[OTHER_ROW; 3]));
+    assert!(rt; back_entries[0..64] == entries[..]);
+    assert!(rt; back_entries[64..67] == [OTHER_ENTRY; 3]);
+    assert!(rt; back_rows[0..64] == rows[..]);
+    assert!(rt; back_rows[64..67] == [OTHER_ROW; 3]);
     let Ok(opened) = open(&output[0..size.min(5125)]) else {
         return Err(Fail::new("what was packed opens at its length"));
     };
@@ -361,15 +385,13 @@ fn images_of_all_lengths_with_64_routines(rt: HostRuntime) -> Result<(), Fail> {
 }
 
 // Packs what the check refuses.
-fn packed_and_refused(rt: &impl Abort, entries: &[Entry], rows: &[Row], wanted: Refusal) {
+fn packed_and_refused(rt: &impl Abort, parts: Parts<'_>, wanted: Refusal) {
     let mut output = [OTHER_BYTE; 111];
     let mut sheet = [ShapeRow { depth: 7, mask: 7 }; 12];
     let mut back_entries = [OTHER_ENTRY; 2];
     let mut back_rows = [OTHER_ROW; 11];
     let back = recover(
-        entries,
-        rows,
-        &two_routines().image,
+        parts,
         &mut output,
         &mut sheet,
         &mut back_entries,
@@ -377,24 +399,24 @@ fn packed_and_refused(rt: &impl Abort, entries: &[Entry], rows: &[Row], wanted: 
     );
     assert_eq!(rt; back, Err(wanted));
     assert_eq!(rt; output[110], 0xC8);
-    assert!(rt; same(&sheet[0..11], &[ShapeRow::BLANK; 11]));
+    assert!(rt; sheet[0..11] == [ShapeRow::BLANK; 11]);
     assert_eq!(rt; sheet[11].depth, 7);
-    assert!(rt; same(&back_entries, &[OTHER_ENTRY; 2]));
-    assert!(rt; same(&back_rows, &[OTHER_ROW; 11]));
+    assert!(rt; back_entries == [OTHER_ENTRY; 2]);
+    assert!(rt; back_rows == [OTHER_ROW; 11]);
 }
 
 #[test]
 fn recover_is_refused_by_the_check(rt: HostRuntime) {
-    let Parts { entries, rows, .. } = two_routines();
-    let mut absent = rows;
-    absent[5] = row(22, 0, 0, 0, 2);
-    packed_and_refused(&rt, &entries, &absent, Refusal::Callee(place(0, 5)));
-    let mut deep = rows;
-    deep[9] = row(3, 0, 2, 0, 0);
-    packed_and_refused(&rt, &entries, &deep, Refusal::Register(place(1, 1)));
-    let mut far = rows;
-    far[8] = row(20, 0, 1, 0, 3);
-    packed_and_refused(&rt, &entries, &far, Refusal::Target(place(1, 0)));
-    let moved = [entry(7, 0, 0), entry(4, 2, 1)];
-    packed_and_refused(&rt, &moved, &rows, Refusal::Ending(place(0, 6)));
+    let mut absent = two_routines();
+    absent.rows[5] = row(22, 0, 0, 0, 2);
+    packed_and_refused(&rt, absent.parts(), Refusal::Callee(place(0, 5)));
+    let mut deep = two_routines();
+    deep.rows[9] = row(3, 0, 2, 0, 0);
+    packed_and_refused(&rt, deep.parts(), Refusal::Register(place(1, 1)));
+    let mut far = two_routines();
+    far.rows[8] = row(20, 0, 1, 0, 3);
+    packed_and_refused(&rt, far.parts(), Refusal::Target(place(1, 0)));
+    let mut moved = two_routines();
+    moved.entries = [entry(7, 0, 0), entry(4, 2, 1)];
+    packed_and_refused(&rt, moved.parts(), Refusal::Ending(place(0, 6)));
 }

@@ -1,4 +1,4 @@
-use crate::answers::{ACCEPTED, Answer, answer, same};
+use crate::answers::{ACCEPTED, Answer, answer};
 use crate::build::RAMP;
 use module::shape::ShapeRow;
 use std::process::Abort;
@@ -38,24 +38,24 @@ fn over(rt: &impl Abort, bytes: &[u8], sheet: &mut [ShapeRow], wanted: Answer) {
 fn a_sheet_with_three_rows_more(rt: HostRuntime) {
     let mut sheet = [OTHER; 9];
     over(&rt, &RAMP, &mut sheet, ACCEPTED);
-    assert!(rt; same(&sheet, &FILLED));
+    assert!(rt; sheet == FILLED);
     over(&rt, &broken(), &mut sheet, (9, 1, 0, 2));
-    assert!(rt; same(&sheet[0..6], &[ShapeRow::BLANK; 6]));
-    assert!(rt; same(&sheet[6..9], &[OTHER; 3]));
+    assert!(rt; sheet[0..6] == [ShapeRow::BLANK; 6]);
+    assert!(rt; sheet[6..9] == [OTHER; 3]);
     over(&rt, &RAMP, &mut sheet, ACCEPTED);
     over(&rt, &RAMP[0..59], &mut sheet, (4, 1, 0, 0));
-    assert!(rt; same(&sheet, &FILLED));
+    assert!(rt; sheet == FILLED);
 }
 
 #[test]
 fn a_sheet_of_just_the_length(rt: HostRuntime) {
     let mut sheet = [OTHER; 6];
     over(&rt, &RAMP[0..59], &mut sheet, (4, 1, 0, 0));
-    assert!(rt; same(&sheet, &[OTHER; 6]));
+    assert!(rt; sheet == [OTHER; 6]);
     over(&rt, &RAMP, &mut sheet, ACCEPTED);
-    assert!(rt; same(&sheet, &FILLED[0..6]));
+    assert!(rt; sheet[..] == FILLED[0..6]);
     over(&rt, &broken(), &mut sheet, (9, 1, 0, 2));
-    assert!(rt; same(&sheet, &[ShapeRow::BLANK; 6]));
+    assert!(rt; sheet == [ShapeRow::BLANK; 6]);
 }
 
 #[test]
@@ -63,7 +63,7 @@ fn a_sheet_one_row_short(rt: HostRuntime) {
     let mut sheet = [OTHER; 5];
     over(&rt, &RAMP, &mut sheet, (12, 0, 0, 0));
     over(&rt, &broken(), &mut sheet, (12, 0, 0, 0));
-    assert!(rt; same(&sheet, &[OTHER; 5]));
+    assert!(rt; sheet == [OTHER; 5]);
 }
 
 #[test]

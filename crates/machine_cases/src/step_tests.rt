@@ -7,6 +7,7 @@ use module::entry::Entry;
 use module::open::open;
 use module::shape::ShapeRow;
 use packing::pack::pack;
+use packing::parts::Parts;
 use std::process::Abort;
 use std::test::Fail;
 
@@ -72,7 +73,12 @@ fn stop_at<H: Host>(
     host: &mut H,
 ) -> Result<Stop, Fail> {
     let mut bytes = [0; 512];
-    match pack(entries, rows, image, &mut bytes) {
+    let parts = Parts {
+        entries,
+        rows,
+        image,
+    };
+    match pack(parts, &mut bytes) {
         Ok(length) => {
             assert!(rt; length <= 512);
             stop_of(&bytes[0..length], host, 1000)
@@ -295,7 +301,12 @@ fn a_long_loop(rt: HostRuntime) -> Result<(), Fail> {
         row(23, 0, 0, 0, 0),
     ];
     let entries = [entry(10, 0, 0), entry(2, 2, 1)];
-    match pack(&entries, &rows, &[], &mut bytes) {
+    let parts = Parts {
+        entries: &entries,
+        rows: &rows,
+        image: &[],
+    };
+    match pack(parts, &mut bytes) {
         Ok(length) => {
             assert!(rt; length <= 512);
             ends(

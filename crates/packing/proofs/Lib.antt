@@ -1,8 +1,8 @@
 pub mod Again
 pub mod Blocks
+pub mod Bodies
 pub mod Digits
 pub mod Formed
-pub mod Parts
 pub mod Passed
 pub mod Recovers
 pub mod Repack

@@ -11,10 +11,10 @@ use Rattle.module.specs.First.{first_failing}
 use Rattle.module.specs.Layout.{routines, total, opening, counts, provided, unless_wrong}
 use Rattle.module.specs.Unpack.{entry_of, body_row, roomy, unpacking, entries_after, rows_after}
 use Rattle.module.specs.Verdict.{checking, sheet_after}
-use Rattle.packing.specs.Pack.{counts_right, entry_right, malformed, unless_malformed, size, packing, output_after}
+use Rattle.packing.specs.Pack.{counts_right, entry_right, malformed, unless_malformed, size, if_ok, packing, output_after}
 use Rattle.packing.specs.Packed as parts
 use Rattle.packing.specs.Packed.{packed}
-use Rattle.packing.specs.Shows.{Shows, if_ok, recovering, sheet_then, returned}
+use Rattle.packing.specs.Shows.{Shows, recovering, sheet_then, returned}
 
 -- what an accepting test leaves
 provided_value : {X : Type 0} (b : Bool) (v : Values) (rest : Result X Values) (x : X) → Ok x ≡ provided b v rest → Ok x ≡ rest

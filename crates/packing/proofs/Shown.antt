@@ -1,8 +1,8 @@
 -- What a packed module shows: its entries, rows and image.
-use Rattle.std.proofs.Common.{◌≡◌, ℕ, zero, suc, ◌+◌, ◌-◌, ◌*◌, ◌<◌, ◌≤◌, Bool, true, not, ◌&&◌, ◌||◌, eqb, leb, List, ◌++◌, map, length, get_or, drop, None, Ok, sym, refl, ap, ◌∙◌, ⊎_elim, append_assoc, arith, length-append}
+use Rattle.std.proofs.Common.{◌≡◌, ℕ, zero, suc, ◌+◌, ◌-◌, ◌*◌, ◌<◌, ◌≤◌, Bool, true, not, ◌&&◌, ◌||◌, eqb, leb, List, ◌++◌, map, length, get_or, drop, None, Ok, sym, refl, ap, ◌∙◌, append_assoc, arith, length-append}
 use Rattle.std.proofs.lemmas.List.FromFn.{fill_by_all}
 use Rattle.std.proofs.lemmas.List.{get_or_append_left, get_or-append_right, get_or-append-add, drop_at}
-use Rattle.std.proofs.lemmas.Bool.{cases_order, and_from, cond-true, eq-eqb, le-leb}
+use Rattle.std.proofs.lemmas.Bool.{and_from, cond-true, eq-eqb, le-leb}
 use Rattle.std.specs.List.{range_with_len}
 use Rattle.refusal.specs.Values.{author}
 use Rattle.isa.specs.declared.row.Row.{Row}
@@ -14,42 +14,17 @@ use Rattle.module.specs.Layout as layout
 use Rattle.module.specs.Unpack.{entry_of, body_row, entries, rows, image}
 use Rattle.packing.specs.Pack.{entry_right, size}
 use Rattle.packing.specs.Packed.{low2, no_entry, no_row, entry_at, row_at, before, total, entry_bytes, row_bytes, blocks, packed}
+use Rattle.packing.specs.Shows.{Shows}
+use Rattle.packing.specs.Tested.{EntriesRight, RowsRight}
+use Rattle.packing.proofs.Blocks.{blocks_long, block_at}
 use Rattle.packing.proofs.Digits.{two_back, four_back}
 use Rattle.packing.proofs.Sums.{inside}
-
-module _ (f : ℕ → List ℕ) (eights : (k : ℕ) → length (f k) ≡ 8) where
-  pub blocks_long : (n : ℕ) → length (blocks f n) ≡ 8 * n
-  blocks_long zero = refl
-  blocks_long (suc n) = omega (arith, length-append (blocks f n) (f n), blocks_long n, eights n)
-
-  -- byte j of block k
-  pub block_at : (n k j : ℕ) → k < n → j < 8 → get_or (blocks f n) (8 * k + j) 0 ≡ get_or (f k) j 0
-  block_at zero k j h g = absurd (omega arith)
-  block_at (suc n) k j h g =
-      let l = blocks_long n in
-      ⊎_elim
-      (λ e. let i : 8 * k + j - 8 * n ≡ j = omega arith in
-      get_or-append_right (blocks f n) (f n) (8 * n) (8 * k + j) 0 l (omega arith) ∙ (λ m. get_or (f (sym e m)) (i m) 0))
-      (⊎_elim
-      (λ lt. get_or_append_left (blocks f n) (f n) 0 (8 * k + j) (omega arith) ∙ block_at n k j lt g)
-      (λ gt. absurd (omega arith)))
-      (cases_order k n)
 
 pub first_all : (test : ℕ → Bool) (left k : ℕ) → ((j : ℕ) → j < k + left → test j ≡ true) → first_failing test left k ≡ None
 first_all test zero k e = refl
 first_all test (suc left) k e = cond-true _ _ _ (e k (omega arith)) ∙ first_all test left (k + 1) (λ j h. e j (omega arith))
 
--- what the tests of pack give
-pub record Packable (es : List Entry) (rs : List Row) (im : List ℕ) : Type 0 where
-  pub some : 1 ≤ length es
-  pub few : length es ≤ 64
-  pub small : length im ≤ 4096
-  pub right : (r : ℕ) → r < length es → entry_right es r ≡ true
-  pub short : total es ≤ 4096
-  pub all : length rs ≡ total es
-  pub words : (k : ℕ) → k < length rs → (row_at rs k).n < 4294967296
-
-module _ (es : List Entry) (rs : List Row) (im : List ℕ) (ok : Packable es rs im) where
+module _ (es : List Entry) (rs : List Row) (im : List ℕ) (ok : EntriesRight es rs im) (sound : RowsRight rs) where
   abbrev p : List ℕ
   p = packed es rs im
 
@@ -135,15 +110,15 @@ module _ (es : List Entry) (rs : List Row) (im : List ℕ) (ok : Packable es rs 
       + 256 * get (at + 4 + 1) 5 (omega arith) (omega arith) i
       + 65536 * get (at + 4 + 2) 6 (omega arith) (omega arith) i
       + 16777216 * get (at + 4 + 3) 7 (omega arith) (omega arith) i)
-      ∙ four_back (row_at rs k).n (ok.words k h) in
+      ∙ four_back (row_at rs k).n (sound.words k h) in
       ap (λ m. layout.row_from p (4 + 8 * m + 8 * k)) routines_is
       ∙ (λ i. row (get at 0 (omega arith) (omega arith) i) (get (at + 1) 1 (omega arith) (omega arith) i) (get (at + 2) 2 (omega arith) (omega arith) i) (get (at + 3) 3 (omega arith) (omega arith) i) (word i))
 
-  pub entries_shown : entries p ≡ es
+  entries_shown : entries p ≡ es
   entries_shown =
       ap (λ m. map (entry_of p) (range_with_len 0 m)) routines_is ∙ sym (fill_by_all (entry_of p) es n no_entry refl (λ k h. sym (entry_is k h)))
 
-  pub rows_shown : rows p ≡ rs
+  rows_shown : rows p ≡ rs
   rows_shown =
       ap (λ m. map (body_row p) (range_with_len 0 m)) (total_is ∙ sym ok.all) ∙ sym (fill_by_all (body_row p) rs (length rs) no_row refl (λ k h. sym (row_is k h)))
 
@@ -151,11 +126,11 @@ module _ (es : List Entry) (rs : List Row) (im : List ℕ) (ok : Packable es rs 
   given_is : layout.length_given p ≡ size es im
   given_is = λ i. 4 + 8 * routines_is i + 8 * total_is i + image_length_is i
 
-  pub packed_long : length p ≡ size es im
+  packed_long : length p ≡ size es im
   packed_long =
       omega (arith, length-append contents (bodies ++ im), length-append bodies im, contents_long, bodies_long, ok.all)
 
-  pub image_shown : image p ≡ im
+  image_shown : image p ≡ im
   image_shown =
       let front = hd ++ (contents ++ bodies) in
       let whole : p ≡ front ++ im = ap (λ l. hd ++ l) (sym (append_assoc contents bodies im)) ∙ sym (append_assoc hd (contents ++ bodies) im) in
@@ -180,7 +155,7 @@ module _ (es : List Entry) (rs : List Row) (im : List ℕ) (ok : Packable es rs 
       let small : leb (length im) 4096 ≡ true = le-leb (length im) 4096 ok.small in
       (λ i. leb 1 (routines_is i) && (leb (routines_is i) 64 && leb (image_length_is i) 4096)) ∙ and_from _ _ one (and_from _ _ few small)
 
-  pub opens : layout.opening p ≡ Ok (layout.counts p)
+  opens : layout.opening p ≡ Ok (layout.counts p)
   opens =
       let long = packed_long in
       let none = ap (λ m. first_failing (layout.entry_right p) m 0) routines_is ∙ first_all (layout.entry_right p) n 0 (λ j h. entry_right_lem j (omega arith)) in
@@ -193,3 +168,6 @@ module _ (es : List Entry) (rs : List Row) (im : List ℕ) (ok : Packable es rs 
       (layout.unless_wrong (none i)
       (layout.provided (exact i) (author 4 0 0)
       (Ok (layout.counts p))))))
+
+  pub shows : Shows p es rs im
+  shows = record { long = packed_long; opens = opens; contents = entries_shown; bodies = rows_shown; last = image_shown; formed = sound.formed }

@@ -1,3 +1,4 @@
 pub mod Pack
 pub mod Packed
 pub mod Shows
+pub mod Tested

@@ -36,15 +36,25 @@ unless_malformed (Some p) rest = Err (author 5 p.routine p.instruction)
 abbrev pub size : List Entry → List ℕ → ℕ
 size es im = 4 + 8 * length es + 8 * total es + length im
 
+-- the rest, if the answer is no refusal
+abbrev pub if_ok : {A X : Type 0} → Result A Values → Result X Values → Result X Values
+if_ok (Ok a) rest = rest
+if_ok (Err e) rest = Err e
+
+-- the rest, if every entry is right and the entries count the rows
+abbrev pub if_counted : {X : Type 0} → List Entry → List Row → List ℕ → Result X Values → Result X Values
+if_counted es rs im rest =
+    provided (counts_right es im) (author 2 0 0)
+    (unless_wrong (first_failing (entry_right es) (length es) 0)
+    (provided (length rs == total es) (author 3 (length es - 1) 0) rest))
+
 -- what pack answers over an output of so many bytes
 abbrev pub packing : List Entry → List Row → List ℕ → ℕ → Result ℕ Values
 packing es rs im room =
-    provided (counts_right es im) (author 2 0 0)
-    (unless_wrong (first_failing (entry_right es) (length es) 0)
-    (provided (length rs == total es) (author 3 (length es - 1) 0)
+    if_counted es rs im
     (unless_malformed (malformed es rs)
     (provided (nat_le (size es im) room) (caller 13)
-    (Ok (size es im))))))
+    (Ok (size es im))))
 
 -- the output after pack
 abbrev pub output_after : List Entry → List Row → List ℕ → List ℕ → List ℕ

@@ -1,5 +1,5 @@
 -- What a module shows, and the two round trips.
-use Rattle.std.specs.Prelude.{◌≡◌, ℕ, ◌<◌, true, cond, ◌&&◌, List, ◌++◌, length, drop, is_ok, Ok, Err, Result, nat_le}
+use Rattle.std.specs.Prelude.{◌≡◌, ℕ, ◌<◌, true, cond, ◌&&◌, List, ◌++◌, length, drop, is_ok, Ok, Result, nat_le}
 use Rattle.refusal.specs.Values.{Values, caller}
 use Rattle.isa.specs.declared.row.Row.{Row}
 use Rattle.isa.specs.Form.{well_formed}
@@ -8,7 +8,7 @@ use Rattle.module.specs.declared.shape.ShapeRow.{ShapeRow}
 use Rattle.module.specs.Layout.{opening, counts, provided}
 use Rattle.module.specs.Unpack.{entries, rows, image, roomy}
 use Rattle.module.specs.Verdict.{checking, sheet_after}
-use Rattle.packing.specs.Pack.{size, packing}
+use Rattle.packing.specs.Pack.{size, if_ok, packing}
 use Rattle.packing.specs.Packed.{row_at, packed}
 
 -- the bytes open, and show these entries, rows and image, with every row well formed
@@ -26,11 +26,6 @@ repacking bs es rs room = provided (roomy bs es rs && nat_le (length bs) room) (
 
 abbrev pub repacked_into : List ℕ → ℕ → ℕ → List ℕ → List ℕ
 repacked_into bs es rs out = cond (roomy bs es rs && nat_le (length bs) (length out)) (bs ++ drop (length bs) out) out
-
--- the rest, if the answer is no refusal
-abbrev pub if_ok : {A X : Type 0} → Result A Values → Result X Values → Result X Values
-if_ok (Ok a) rest = rest
-if_ok (Err e) rest = Err e
 
 -- packed into so many bytes, checked over so many rows of a sheet, and unpacked into so many entries and rows
 abbrev pub recovering : List Entry → List Row → List ℕ → ℕ → ℕ → ℕ → ℕ → Result (ℕ × ℕ) Values

@@ -3,6 +3,7 @@
 #![tactic(auto)]
 
 pub mod pack;
+pub mod parts;
 pub mod round;
 mod test;
 mod write;

@@ -4,39 +4,15 @@ ghost use Rattle.packing.specs.Pack.{packing, output_after};
 ghost use Rattle.packing.specs.Packed.{packed};
 ghost use Rattle.packing.specs.Shows.{Shows};
 
-use crate::test::{first_malformed, sum_entries};
-use crate::write::write_module;
-use isa::row::Row;
-use module::entry::Entry;
-use module::limits;
+use crate::parts::Parts;
 use refusal::Refusal;
 
 /// Puts a module together and answers its length. The output past the length keeps its content, and a refusal changes
 /// nothing.
-pub fn pack(
-    entries: &[Entry],
-    rows: &[Row],
-    image: &[u8],
-    output: &mut [u8],
-) -> Result<usize, Refusal>
-    ensures verdict { told result ≡ packing entries.now rows.now image.now (length output.old) }
-    ensures output { output.new ≡ output_after entries.now rows.now image.now output.old }
-    ensures shows { OnOk result (Shows (packed entries.now rows.now image.now) entries.now rows.now image.now) }
+pub fn pack(parts: Parts<'_>, output: &mut [u8]) -> Result<usize, Refusal>
+    ensures verdict { let p = parts.entry in told result ≡ packing p.entries.now p.rows.now p.image.now (length output.old) }
+    ensures output { let p = parts.entry in output.new ≡ output_after p.entries.now p.rows.now p.image.now output.old }
+    ensures shows { let p = parts.entry in OnOk result (Shows (packed p.entries.now p.rows.now p.image.now) p.entries.now p.rows.now p.image.now) }
 {
-    if entries.len() < 1 || entries.len() > limits::ROUTINES || image.len() > limits::IMAGE {
-        return Err(Refusal::Counts);
-    }
-    let total = sum_entries(entries)?;
-    if rows.len() != total {
-        return Err(Refusal::Entry((entries.len() - 1) as u16));
-    }
-    if let Some(place) = first_malformed(entries, rows) {
-        return Err(Refusal::Form(place));
-    }
-    let size = 4 + 8 * entries.len() + 8 * total + image.len();
-    if output.len() < size {
-        return Err(Refusal::Room);
-    }
-    write_module(&mut output[0..size], entries, rows, image);
-    Ok(size)
+    parts.counted()?.tested()?.write(output)
 }

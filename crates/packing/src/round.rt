@@ -7,6 +7,7 @@ ghost use Rattle.packing.specs.Packed.{packed};
 ghost use Rattle.packing.specs.Shows.{Shows, repacking, repacked_into, recovering, sheet_then, returned};
 
 use crate::pack::pack;
+use crate::parts::Parts;
 use isa::row::Row;
 use module::checked::Checked;
 use module::entry::Entry;
@@ -28,32 +29,30 @@ pub fn repack(
     ensures output { output.new ≡ repacked_into (bytes_of checked.now.opened) (length entries.old) (length rows.old) output.old }
 {
     let (routines, total) = checked.unpack(entries, rows)?;
-    pack(
-        &entries[0..routines],
-        &rows[0..total],
-        checked.image(),
-        output,
-    )
+    let parts = Parts {
+        entries: &entries[0..routines],
+        rows: &rows[0..total],
+        image: checked.image(),
+    };
+    pack(parts, output)
 }
 
 /// Packs, opens, checks and unpacks: what comes to a checked module comes back as it was given.
 pub fn recover(
-    entries: &[Entry],
-    rows: &[Row],
-    image: &[u8],
+    parts: Parts<'_>,
     output: &mut [u8],
     sheet: &mut [ShapeRow],
     back_entries: &mut [Entry],
     back_rows: &mut [Row],
 ) -> Result<(usize, usize), Refusal>
-    ensures verdict { told result ≡ recovering entries.now rows.now image.now (length output.old) (length sheet.old) (length back_entries.old) (length back_rows.old) }
-    ensures output { output.new ≡ output_after entries.now rows.now image.now output.old }
-    ensures sheet { sheet.new ≡ sheet_then entries.now rows.now image.now (length output.old) sheet.old }
-    ensures back_entries { back_entries.new ≡ returned (told result) entries.now back_entries.old }
-    ensures back_rows { back_rows.new ≡ returned (told result) rows.now back_rows.old }
-    ensures shows { OnOk result (Shows (packed entries.now rows.now image.now) entries.now rows.now image.now) }
+    ensures verdict { let p = parts.entry in told result ≡ recovering p.entries.now p.rows.now p.image.now (length output.old) (length sheet.old) (length back_entries.old) (length back_rows.old) }
+    ensures output { let p = parts.entry in output.new ≡ output_after p.entries.now p.rows.now p.image.now output.old }
+    ensures sheet { let p = parts.entry in sheet.new ≡ sheet_then p.entries.now p.rows.now p.image.now (length output.old) sheet.old }
+    ensures back_entries { back_entries.new ≡ returned (told result) parts.entry.entries.now back_entries.old }
+    ensures back_rows { back_rows.new ≡ returned (told result) parts.entry.rows.now back_rows.old }
+    ensures shows { let p = parts.entry in OnOk result (Shows (packed p.entries.now p.rows.now p.image.now) p.entries.now p.rows.now p.image.now) }
 {
-    let size = pack(entries, rows, image, output)?;
+    let size = pack(parts, output)?;
     let opened = open(&output[0..size])?;
     opened.check(sheet)?;
     opened.take().unpack(back_entries, back_rows)

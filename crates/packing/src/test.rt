@@ -1,17 +1,34 @@
 // The tests of pack, in their order.
-ghost use Rattle.std.specs.Prelude.{◌≡◌, ℕ, ◌+◌, ◌^◌, ◌<◌, ◌≤◌, List, length, IfOk, None, Ok};
-ghost use Rattle.refusal.specs.Values.{told};
+ghost use Rattle.std.specs.Prelude.{◌≡◌, ℕ, ◌+◌, ◌^◌, ◌<◌, ◌≤◌, not, List, length, IfOk, None, Ok, Result};
+ghost use Rattle.std.specs.List.{position_from};
+ghost use Rattle.refusal.specs.Values.{Values, told};
 ghost use Rattle.isa.specs.Form.{well_formed};
 ghost use Rattle.module.specs.First.{first_failing};
 ghost use Rattle.module.specs.Layout.{unless_wrong};
-ghost use Rattle.packing.specs.Pack.{entry_right, malformed};
+ghost use Rattle.packing.specs.Pack.{entry_right, malformed, unless_malformed, size, if_ok, if_counted};
 ghost use Rattle.packing.specs.Packed.{entry_at, row_at, before, total};
+ghost use Rattle.packing.specs.Tested.{EntriesRight, RowsRight};
 
+use crate::parts::Parts;
 use isa::decode::decode;
 use isa::row::Row;
 use module::entry::Entry;
 use module::limits;
 use refusal::{Place, Refusal};
+
+// Parts whose entries are right and count the rows.
+#[derive(Clone, Copy)]
+pub(crate) struct Counted<'a> {
+    pub(crate) parts: Parts<'a>,
+    ghost entries: { EntriesRight parts.entries.now parts.rows.now parts.image.now },
+}
+
+// Parts that passed all tests.
+#[derive(Clone, Copy)]
+pub(crate) struct Tested<'a> {
+    pub(crate) counted: Counted<'a>,
+    ghost rows: { RowsRight counted.parts.rows.now },
+}
 
 // Whether the entry of a routine is right, after entries with sum instructions.
 fn entry_right(entry: Entry, routine: usize, sum: usize) -> bool
@@ -26,17 +43,17 @@ fn entry_right(entry: Entry, routine: usize, sum: usize) -> bool
 }
 
 // The number of instructions in all routines, if every entry is right.
-pub(crate) fn sum_entries(entries: &[Entry]) -> Result<usize, Refusal>
+fn sum_entries(entries: &[Entry]) -> Result<usize, Refusal>
     requires { length entries.now ≤ 64 }
     ensures verdict { told result ≡ unless_wrong (first_failing (entry_right entries.now) (length entries.now) 0) (Ok (total entries.now)) }
     ensures short { IfOk result (λ t. t ≤ 4096) }
 {
     let mut sum = 0;
-    for routine in 0..entries.len() {
-        if !entry_right(entries[routine], routine, sum) {
+    for (routine, entry) in entries.iter().enumerate() {
+        if !entry_right(*entry, routine, sum) {
             return Err(Refusal::Entry(routine as u16));
         }
-        sum += entries[routine].count as usize;
+        sum += entry.count as usize;
     }
     Ok(sum)
 }
@@ -45,42 +62,80 @@ fn is_formed(row: Row) -> bool
     ensures formed { result ≡ well_formed row }
     ensures word { row.n < 2 ^ 32 }
 {
-    // taken apart, so that the prover sees the width of n
-    let Row { op, a, b, c, n } = row;
-    decode(Row { op, a, b, c, n }).is_some()
+    decode(row).is_some()
 }
 
 // The first of some rows that is not well formed.
 fn malformed_in(rows: &[Row]) -> Option<usize>
-    ensures first { result ≡ first_failing (λ k. well_formed (row_at rows.now k)) (length rows.now) 0 }
+    ensures first { result ≡ position_from (λ row. not (well_formed row)) 0 rows.now }
     ensures words { result ≡ None → (k : ℕ) → k < length rows.now → (row_at rows.now k).n < 2 ^ 32 }
 {
-    for i in 0..rows.len() {
-        if !is_formed(rows[i]) {
-            return Some(i);
-        }
-    }
-    None
+    rows.iter().position(|row| !is_formed(*row))
 }
 
-// The first place whose row is not well formed.
-pub(crate) fn first_malformed(entries: &[Entry], rows: &[Row]) -> Option<Place>
-    requires few { length entries.now ≤ 64 }
-    requires short { length rows.now ≤ 4096 }
-    requires all { length rows.now ≡ total entries.now }
-    ensures first { result ≡ malformed entries.now rows.now }
-    ensures words { result ≡ None → (k : ℕ) → k < length rows.now → (row_at rows.now k).n < 2 ^ 32 }
-{
-    let mut start = 0;
-    for routine in 0..entries.len() {
-        let end = start + entries[routine].count as usize;
-        if let Some(i) = malformed_in(&rows[start..end]) {
-            return Some(Place {
-                routine: routine as u16,
-                instruction: i as u16,
-            });
+impl<'a> Parts<'a> {
+    // The tests of the counts, of the entries and of the number of rows.
+    pub(crate) fn counted(self) -> Result<Counted<'a>, Refusal>
+        ensures verdict { (rest : Result ℕ Values) → if_ok (told result) rest ≡ if_counted self.entry.entries.now self.entry.rows.now self.entry.image.now rest }
+        ensures same { IfOk result (λ c. c.parts ≡ self.entry) }
+    {
+        let Parts {
+            entries,
+            rows,
+            image,
+        } = self;
+        if entries.len() < 1 || entries.len() > limits::ROUTINES || image.len() > limits::IMAGE {
+            return Err(Refusal::Counts);
         }
-        start = end;
+        let total = sum_entries(entries)?;
+        if rows.len() != total {
+            return Err(Refusal::Entry((entries.len() - 1) as u16));
+        }
+        Ok(Counted { parts: self })
     }
-    None
+}
+
+impl<'a> Counted<'a> {
+    // The length of the module.
+    pub(crate) fn size(&self) -> usize
+        ensures { result ≡ size self.now.parts.entries.now self.now.parts.image.now }
+    {
+        let Parts {
+            entries,
+            rows,
+            image,
+        } = self.parts;
+        4 + 8 * entries.len() + 8 * rows.len() + image.len()
+    }
+
+    // The first place whose row is not well formed.
+    fn first_malformed(&self) -> Option<Place>
+        ensures first { result ≡ malformed self.now.parts.entries.now self.now.parts.rows.now }
+        ensures words { result ≡ None → (k : ℕ) → k < length self.now.parts.rows.now → (row_at self.now.parts.rows.now k).n < 2 ^ 32 }
+    {
+        let mut rest = self.parts.rows;
+        let entries = self.parts.entries;
+        for (routine, entry) in entries.iter().enumerate() {
+            let (body, later) = rest.split_at(entry.count as usize);
+            if let Some(i) = malformed_in(body) {
+                return Some(Place {
+                    routine: routine as u16,
+                    instruction: i as u16,
+                });
+            }
+            rest = later;
+        }
+        None
+    }
+
+    // The test of the rows.
+    pub(crate) fn tested(self) -> Result<Tested<'a>, Refusal>
+        ensures verdict { (rest : Result ℕ Values) → if_ok (told result) rest ≡ unless_malformed (malformed self.entry.parts.entries.now self.entry.parts.rows.now) rest }
+        ensures same { IfOk result (λ t. t.counted ≡ self.entry) }
+    {
+        if let Some(place) = self.first_malformed() {
+            return Err(Refusal::Form(place));
+        }
+        Ok(Tested { counted: self })
+    }
 }

@@ -1,77 +1,78 @@
-// Bytes of a module, written into a part of the output that is as long.
-ghost use Rattle.std.specs.Prelude.{◌≡◌, ◌+◌, ◌*◌, ◌≤◌, [], ◌∷◌, ◌++◌, length};
+// The bytes of a module, written from the start of the output.
+ghost use Rattle.std.specs.Prelude.{◌≡◌, ◌+◌, ◌≤◌, cond, [], ◌∷◌, ◌++◌, length, take, drop, Ok, OnOk, nat_le};
+ghost use Rattle.refusal.specs.Values.{told, caller};
+ghost use Rattle.module.specs.Layout.{provided};
 ghost use Rattle.packing.specs.Pack.{size};
-ghost use Rattle.packing.specs.Packed.{low2, low4, row_at, total, entry_bytes, row_bytes, blocks, packed};
+ghost use Rattle.packing.specs.Packed.{low2, low4, row_bytes, packed};
+ghost use Rattle.packing.specs.Shows.{Shows};
 
+use crate::parts::Parts;
+use crate::test::Tested;
 use isa::row::Row;
 use module::entry::Entry;
+use refusal::Refusal;
 
-fn write_row(part: &mut [u8], row: Row)
-    requires { length part.old ≡ 8 }
-    ensures { part.new ≡ row_bytes row }
+fn row_bytes(row: Row) -> [u8; 8]
+    ensures { result ≡ row_bytes row }
 {
     let [n0, n1, n2, n3] = row.n.to_le_bytes();
-    part.copy_from_slice(&[row.op, row.a, row.b, row.c, n0, n1, n2, n3]);
+    [row.op, row.a, row.b, row.c, n0, n1, n2, n3]
 }
 
-fn write_entry(part: &mut [u8], offset: u32, entry: Entry)
-    requires { length part.old ≡ 8 }
-    ensures { part.new ≡ low4 offset ++ (low2 entry.count ++ (entry.arguments ∷ entry.results ∷ [])) }
+fn entry_bytes(offset: u32, entry: Entry) -> [u8; 8]
+    ensures { result ≡ low4 offset ++ (low2 entry.count ++ (entry.arguments ∷ entry.results ∷ [])) }
 {
     let [o0, o1, o2, o3] = offset.to_le_bytes();
     let [c0, c1] = entry.count.to_le_bytes();
-    part.copy_from_slice(&[o0, o1, o2, o3, c0, c1, entry.arguments, entry.results]);
+    [o0, o1, o2, o3, c0, c1, entry.arguments, entry.results]
 }
 
-fn write_header(part: &mut [u8], routines: u16, image: u16)
-    requires { length part.old ≡ 4 }
-    ensures { part.new ≡ low2 routines ++ low2 image }
+fn header_bytes(routines: u16, image: u16) -> [u8; 4]
+    ensures { result ≡ low2 routines ++ low2 image }
 {
     let [n0, n1] = routines.to_le_bytes();
     let [d0, d1] = image.to_le_bytes();
-    part.copy_from_slice(&[n0, n1, d0, d1]);
+    [n0, n1, d0, d1]
 }
 
-fn write_rows(part: &mut [u8], rows: &[Row])
-    requires { length part.old ≡ 8 * length rows.now }
-    ensures { part.new ≡ blocks (λ k. row_bytes (row_at rows.now k)) (length rows.now) }
+// Writes bytes from a place on, and answers where they end.
+fn put(output: &mut [u8], at: usize, bytes: &[u8]) -> usize
+    requires { at + length bytes.now ≤ length output.old }
+    ensures end { result ≡ at + length bytes.now }
+    ensures output { output.new ≡ take at output.old ++ (bytes.now ++ drop (at + length bytes.now) output.old) }
 {
-    for k in 0..rows.len() {
-        let at = 8 * k;
-        let end = at + 8;
-        write_row(&mut part[at..end], rows[k]);
+    let end = at + bytes.len();
+    output[at..end].copy_from_slice(bytes);
+    end
+}
+
+impl Tested<'_> {
+    // Writes the module, if there is room for it.
+    pub(crate) fn write(&self, output: &mut [u8]) -> Result<usize, Refusal>
+        ensures verdict { let p = self.now.counted.parts in told result ≡ provided (nat_le (size p.entries.now p.image.now) (length output.old)) (caller 13) (Ok (size p.entries.now p.image.now)) }
+        ensures output { let p = self.now.counted.parts in output.new ≡ cond (nat_le (size p.entries.now p.image.now) (length output.old)) (packed p.entries.now p.rows.now p.image.now ++ drop (size p.entries.now p.image.now) output.old) output.old }
+        ensures shows { let p = self.now.counted.parts in OnOk result (Shows (packed p.entries.now p.rows.now p.image.now) p.entries.now p.rows.now p.image.now) }
+    {
+        let size = self.counted.size();
+        if output.len() < size {
+            return Err(Refusal::Room);
+        }
+        let Parts {
+            entries,
+            rows,
+            image,
+        } = self.counted.parts;
+        let header = header_bytes(entries.len() as u16, image.len() as u16);
+        let mut at = put(output, 0, &header);
+        let mut offset = 4 + 8 * entries.len();
+        for entry in entries {
+            at = put(output, at, &entry_bytes(offset as u32, *entry));
+            offset += 8 * entry.count as usize;
+        }
+        for row in rows {
+            at = put(output, at, &row_bytes(*row));
+        }
+        put(output, at, image);
+        Ok(size)
     }
-}
-
-fn write_entries(part: &mut [u8], entries: &[Entry])
-    requires room { length part.old ≡ 8 * length entries.now }
-    requires few { length entries.now ≤ 64 }
-    requires short { total entries.now ≤ 4096 }
-    ensures { part.new ≡ blocks (entry_bytes entries.now) (length entries.now) }
-{
-    let mut offset = 4 + 8 * entries.len();
-    for r in 0..entries.len() {
-        let at = 8 * r;
-        let end = at + 8;
-        write_entry(&mut part[at..end], offset as u32, entries[r]);
-        offset += 8 * entries[r].count as usize;
-    }
-}
-
-// Writes a whole module.
-pub(crate) fn write_module(part: &mut [u8], entries: &[Entry], rows: &[Row], image: &[u8])
-    requires few { length entries.now ≤ 64 }
-    requires short { total entries.now ≤ 4096 }
-    requires all { length rows.now ≡ total entries.now }
-    requires small { length image.now ≤ 4096 }
-    requires room { length part.old ≡ size entries.now image.now }
-    ensures { part.new ≡ packed entries.now rows.now image.now }
-{
-    let bodies = 4 + 8 * entries.len();
-    let end = bodies + 8 * rows.len();
-    write_header(&mut part[0..4], entries.len() as u16, image.len() as u16);
-    write_entries(&mut part[4..bodies], entries);
-    write_rows(&mut part[bodies..end], rows);
-    let rest = &mut part[end..];
-    rest.copy_from_slice(image);
 }

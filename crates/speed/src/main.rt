@@ -13,6 +13,7 @@ use module::open::open;
 use module::opened::Opened;
 use module::shape::ShapeRow;
 use packing::pack::pack;
+use packing::parts::Parts;
 use packing::round::repack;
 use std::alloc::{AllocError, Global};
 use std::env;
@@ -79,7 +80,12 @@ fn module_of(heap: Global, times: u16) -> anyhow::Result<Vec<u8>> {
         ..NO_ENTRY
     };
     let mut bytes = vec![in heap; 0; limits::deciding_length()]?;
-    let Ok(size) = pack(&[entry], rows.as_slice(), &[], bytes.as_mut_slice()) else {
+    let parts = Parts {
+        entries: &[entry],
+        rows: rows.as_slice(),
+        image: &[],
+    };
+    let Ok(size) = pack(parts, bytes.as_mut_slice()) else {
         return Err(anyhow!("the module is not packed"));
     };
     bytes.truncate(size);

@@ -9,9 +9,9 @@ use Rattle.packing.proofs.round.recover.Goals as goal
 
 pub returns-in_err-opened : goal.returns-in_err-opened
 returns-in_err-opened c =
-    let es = c.args.entries.now in
-    let rs = c.args.rows.now in
-    let im = c.args.image.now in
+    let es = c.args.parts.entries.now in
+    let rs = c.args.parts.rows.now in
+    let im = c.args.parts.image.now in
     let out = c.args.output.now in
     let done = c.in_ok-size.ensures in
     let n = c.in_ok-size.size in
@@ -20,9 +20,9 @@ returns-in_err-opened c =
 
 pub returns-in_err-check : goal.returns-in_err-check
 returns-in_err-check c =
-    let es = c.args.entries.now in
-    let rs = c.args.rows.now in
-    let im = c.args.image.now in
+    let es = c.args.parts.entries.now in
+    let rs = c.args.parts.rows.now in
+    let im = c.args.parts.image.now in
     let out = c.args.output.now in
     let done = c.in_ok-size.ensures in
     let n = c.in_ok-size.size in
@@ -41,9 +41,9 @@ returns-in_err-check c =
 
 pub returns : goal.returns
 returns c =
-    let es = c.args.entries.now in
-    let rs = c.args.rows.now in
-    let im = c.args.image.now in
+    let es = c.args.parts.entries.now in
+    let rs = c.args.parts.rows.now in
+    let im = c.args.parts.image.now in
     let out = c.args.output.now in
     let done = c.in_ok-size.ensures in
     let n = c.in_ok-size.size in
