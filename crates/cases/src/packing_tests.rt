@@ -1,5 +1,6 @@
 use crate::build::RAMP;
 use isa::row::Row;
+use module::checked::Checked;
 use module::entry::Entry;
 use module::open::open;
 use module::shape::ShapeRow;
@@ -99,14 +100,17 @@ fn two_routines() -> TwoRoutines {
     }
 }
 
+// Over a sheet that is long enough for every module of the tests.
+fn checked(bytes: &[u8]) -> Result<Checked<'_>, Refusal> {
+    open(bytes)?.into_checked(&mut [ShapeRow::BLANK; 64])
+}
+
 fn unpack(
     bytes: &[u8],
     entries: &mut [Entry],
     rows: &mut [Row],
 ) -> Result<(usize, usize), Refusal> {
-    let opened = open(bytes)?;
-    opened.check(&mut [ShapeRow::BLANK; 64])?;
-    opened.take().unpack(entries, rows)
+    checked(bytes)?.unpack(entries, rows)
 }
 
 fn repack_bytes(
@@ -115,15 +119,11 @@ fn repack_bytes(
     rows: &mut [Row],
     output: &mut [u8],
 ) -> Result<usize, Refusal> {
-    let opened = open(bytes)?;
-    opened.check(&mut [ShapeRow::BLANK; 64])?;
-    repack(&opened.take(), entries, rows, output)
+    repack(&checked(bytes)?, entries, rows, output)
 }
 
 fn show_image(bytes: &[u8]) -> Result<&[u8], Refusal> {
-    let opened = open(bytes)?;
-    opened.check(&mut [ShapeRow::BLANK; 64])?;
-    Ok(opened.take().image())
+    Ok(checked(bytes)?.image())
 }
 
 #[test]

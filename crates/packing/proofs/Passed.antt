@@ -1,6 +1,7 @@
 -- Entries, rows and image that pass the tests of pack.
 use Rattle.std.proofs.Common.{◌≡◌, ℕ, zero, suc, ◌+◌, ◌-◌, ◌^◌, ◌<◌, ◌≤◌, true, List, length, Some, None, Ok, Option, Result, sym, refl, ◌∙◌, subst, ⊎_elim, arith}
 use Rattle.std.proofs.lemmas.Bool.{cases_lt}
+use Rattle.std.proofs.lemmas.Bool.Decides.{nat_tests}
 use Rattle.refusal.specs.Values.{Values}
 use Rattle.isa.specs.declared.row.Row.{Row}
 use Rattle.isa.specs.Form.{well_formed}
@@ -8,7 +9,7 @@ use Rattle.module.specs.declared.entry.Entry.{Entry}
 use Rattle.module.specs.First.{first_failing}
 use Rattle.module.specs.Layout.{unless_wrong}
 use Rattle.module.proofs.Firsts.{first_none, place_none}
-use Rattle.packing.specs.Pack.{entry_right, formed, malformed}
+use Rattle.packing.specs.Pack.{counts_right, entry_right, formed, malformed}
 use Rattle.packing.specs.Packed.{entry_at, row_at, before, total}
 use Rattle.packing.specs.Tested.{EntriesRight, RowsRight}
 
@@ -16,14 +17,14 @@ none_wrong : (o : Option ℕ) (t x : ℕ) → ◌≡◌ {A = Result ℕ Values} 
 none_wrong None t x e = (refl, grind arith)
 none_wrong (Some r) t x e = absurd (grind arith)
 
-pub entries_right : (es : List Entry) (rs : List Row) (im : List ℕ) → 1 ≤ length es → length es ≤ 64 → length im ≤ 4096 → (t : ℕ)
+pub entries_right : (es : List Entry) (rs : List Row) (im : List ℕ) → counts_right es im ≡ true → (t : ℕ)
     → ◌≡◌ {A = Result ℕ Values} (Ok t) (unless_wrong (first_failing (entry_right es) (length es) 0) (Ok (total es))) → t ≤ 4096 → length rs ≡ t → EntriesRight es rs im
-entries_right es rs im some few small t sum short all =
+entries_right es rs im counts t sum short all =
     let right = none_wrong (first_failing (entry_right es) (length es) 0) t (total es) sum in
     record {
-      some = some;
-      few = few;
-      small = small;
+      some = grind (arith, nat_tests);
+      few = grind (arith, nat_tests);
+      small = grind (arith, nat_tests);
       right = λ r h. first_none (entry_right es) (length es) 0 right.0 r (omega arith) (omega arith);
       short = omega (arith, right.1);
       all = all ∙ right.1;

@@ -1,5 +1,5 @@
 -- What comes back of a packed module.
-use Rattle.std.proofs.Common.{◌≡◌, ℕ, Bool, true, false, cond, ◌&&◌, eqb, leb, List, ◌++◌, length, take, drop, is_ok, IfOk, Some, None, Ok, Err, Option, Result, sym, refl, ap, ◌∙◌, arith}
+use Rattle.std.proofs.Common.{◌≡◌, ℕ, Bool, true, false, cond, ◌&&◌, eqb, leb, List, ◌++◌, length, take, drop, is_ok, Some, None, Ok, Err, Option, Result, sym, refl, ap, ◌∙◌, arith}
 use Rattle.std.proofs.lemmas.List.FromFn.{length-map-range_with_len}
 use Rattle.std.proofs.lemmas.List.{take_at}
 use Rattle.refusal.specs.Values.{Values, caller}
@@ -8,7 +8,7 @@ use Rattle.isa.specs.declared.row.Row.{Row}
 use Rattle.module.specs.declared.entry.Entry.{Entry}
 use Rattle.module.specs.declared.shape.ShapeRow.{ShapeRow}
 use Rattle.module.specs.First.{first_failing}
-use Rattle.module.specs.Layout.{routines, total, opening, counts, provided, unless_wrong}
+use Rattle.module.specs.Layout.{routines, total, provided, unless_wrong}
 use Rattle.module.specs.Unpack.{entry_of, body_row, roomy, unpacking, entries_after, rows_after}
 use Rattle.module.specs.Verdict.{checking, sheet_after}
 use Rattle.packing.specs.Pack.{counts_right, entry_right, malformed, unless_malformed, size, if_ok, packing, output_after}
@@ -83,14 +83,3 @@ module _ (es : List Entry) (rs : List Row) (im : List ℕ) (room n : ℕ) (v : O
     rows_back brs' w =
         w ∙ ap (λ b. rows_after b bes brs) q
         ∙ (λ i. cond (roomy_is (length bes) (length brs) r bs q e i) (shows.bodies i ++ drop (total_is i) brs) brs)
-
-  -- what pack wrote opens
-  pub unopened : (out out' : List ℕ) (k : ℕ) → length out ≡ room → out' ≡ output_after es rs im out → k ≡ n → (e : Values) → Err e ≡ opening (take k out') → ⊥
-  unopened out out' k long w q e h =
-      let bad : Err e ≡ Ok (counts p) = h ∙ ap opening (written out out' k long w q) ∙ shows.opens in
-      absurd (grind arith)
-
--- a fact that always holds, of a result
-pub made_always : {X E : Type 0} {P : Type 0} (r : Result X E) → P → IfOk r (λ _. P)
-made_always (Ok x) p = p
-made_always (Err e) p = tt

@@ -1,24 +1,19 @@
 -- What pack answers, and what it leaves in the output.
-use Rattle.std.specs.Prelude.{ℕ, ◌+◌, ◌-◌, ◌*◌, Bool, cond, not, ◌&&◌, ◌||◌, List, ◌++◌, length, drop, is_ok, Some, None, Ok, Err, Option, Result, ◌==◌, nat_le}
+use Rattle.std.specs.Prelude.{ℕ, ◌+◌, ◌-◌, ◌*◌, Bool, cond, List, ◌++◌, length, drop, is_ok, Some, None, Ok, Err, Option, Result, ◌==◌, nat_le}
 use Rattle.refusal.specs.Values.{Values, author, caller}
 use Rattle.refusal.specs.declared.Place.{Place}
 use Rattle.isa.specs.declared.row.Row.{Row}
 use Rattle.isa.specs.Form.{well_formed}
 use Rattle.module.specs.declared.entry.Entry.{Entry}
 use Rattle.module.specs.First.{first_failing, first_place}
-use Rattle.module.specs.Layout.{provided, unless_wrong}
+use Rattle.module.specs.Layout.{allowed, right, provided, unless_wrong}
 use Rattle.packing.specs.Packed.{entry_at, row_at, before, total, packed}
 
 abbrev pub counts_right : List Entry → List ℕ → Bool
-counts_right es im = nat_le 1 (length es) && (nat_le (length es) 64 && nat_le (length im) 4096)
+counts_right es im = allowed (length es) (length im)
 
 abbrev pub entry_right : List Entry → ℕ → Bool
-entry_right es r =
-    nat_le 1 (entry_at es r).count
-    && (nat_le (entry_at es r).arguments 32
-    && (nat_le (entry_at es r).results 8
-    && ((not (r == 0) || ((entry_at es r).arguments == 0 && (entry_at es r).results == 0))
-    && nat_le (before es r + (entry_at es r).count) 4096)))
+entry_right es r = right (entry_at es r) r (before es r)
 
 -- instruction i of routine r is a well-formed row
 abbrev pub formed : List Entry → List Row → ℕ → ℕ → Bool

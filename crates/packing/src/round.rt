@@ -53,7 +53,6 @@ pub fn recover(
     ensures shows { let p = parts.entry in OnOk result (Shows (packed p.entries.now p.rows.now p.image.now) p.entries.now p.rows.now p.image.now) }
 {
     let size = pack(parts, output)?;
-    let opened = open(&output[0..size])?;
-    opened.check(sheet)?;
-    opened.take().unpack(back_entries, back_rows)
+    let checked = open(&output[0..size])?.into_checked(sheet)?;
+    checked.unpack(back_entries, back_rows)
 }

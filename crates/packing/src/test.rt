@@ -30,18 +30,6 @@ pub(crate) struct Tested<'a> {
     ghost rows: { RowsRight counted.parts.rows.now },
 }
 
-// Whether the entry of a routine is right, after entries with sum instructions.
-fn entry_right(entry: Entry, routine: usize, sum: usize) -> bool
-    requires { sum ≤ 4096 }
-    ensures { (es : List Entry) → entry ≡ entry_at es routine → sum ≡ before es routine → result ≡ entry_right es routine }
-{
-    entry.count >= 1
-        && entry.arguments <= limits::ARGUMENTS
-        && entry.results <= limits::RESULTS
-        && (routine != 0 || entry.arguments == 0 && entry.results == 0)
-        && sum + entry.count as usize <= limits::INSTRUCTIONS
-}
-
 // The number of instructions in all routines, if every entry is right.
 fn sum_entries(entries: &[Entry]) -> Result<usize, Refusal>
     requires { length entries.now ≤ 64 }
@@ -50,10 +38,10 @@ fn sum_entries(entries: &[Entry]) -> Result<usize, Refusal>
 {
     let mut sum = 0;
     for (routine, entry) in entries.iter().enumerate() {
-        if !entry_right(*entry, routine, sum) {
+        if !entry.is_right(routine, sum) {
             return Err(Refusal::Entry(routine as u16));
         }
-        sum += entry.count as usize;
+        sum += usize::from(entry.count);
     }
     Ok(sum)
 }
@@ -84,7 +72,7 @@ impl<'a> Parts<'a> {
             rows,
             image,
         } = self;
-        if entries.len() < 1 || entries.len() > limits::ROUTINES || image.len() > limits::IMAGE {
+        if !limits::allow(entries.len(), image.len()) {
             return Err(Refusal::Counts);
         }
         let total = sum_entries(entries)?;
@@ -116,7 +104,7 @@ impl<'a> Counted<'a> {
         let mut rest = self.parts.rows;
         let entries = self.parts.entries;
         for (routine, entry) in entries.iter().enumerate() {
-            let (body, later) = rest.split_at(entry.count as usize);
+            let (body, later) = rest.split_at(usize::from(entry.count));
             if let Some(i) = malformed_in(body) {
                 return Some(Place {
                     routine: routine as u16,

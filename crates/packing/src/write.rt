@@ -67,7 +67,7 @@ impl Tested<'_> {
         let mut offset = 4 + 8 * entries.len();
         for entry in entries {
             at = put(output, at, &entry_bytes(offset as u32, *entry));
-            offset += 8 * entry.count as usize;
+            offset += 8 * usize::from(entry.count);
         }
         for row in rows {
             at = put(output, at, &row_bytes(*row));

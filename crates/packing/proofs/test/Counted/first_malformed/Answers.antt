@@ -1,4 +1,4 @@
-use Rattle.std.proofs.Common.{◌≡◌, ◌+◌, ◌-◌, ◌≤◌, not, length, drop, Some, None, sym, refl, ap, ◌∙◌, add-one, arith, length-drop}
+use Rattle.std.proofs.Common.{◌≡◌, ◌+◌, ◌-◌, ◌≤◌, not, length, take, drop, Some, None, sym, refl, ap, ◌∙◌, add-one, arith, length-drop}
 use Rattle.std.proofs.lemmas.List.{drop-drop}
 use Rattle.std.specs.List.{position_from}
 use Rattle.isa.specs.Form.{well_formed}
@@ -15,17 +15,20 @@ pub split_at-requires : goal.split_at-requires
 split_at-requires c =
     let p = c.args.self.now.parts in
     let es = p.entries.now in
-    omega (arith, ap length c.loop-routine.invariant.rest, length-drop (before es c.loop-routine.routine) p.rows.now, inside es c.loop-routine.routine c.loop-routine-test.true, c.args.self.now.entries.all)
+    omega (arith, ap length c.loop-routine.invariant.rest, length-drop (before es c.loop-routine.routine) p.rows.now, inside es c.loop-routine.routine c.loop-routine-test.true, c.args.self.now.entries.all, c.from.ensures)
 
 -- the routine's rows stand among all
 within : (c : After-malformed_in) → before c.args.self.now.parts.entries.now c.loop-routine.routine + (entry_at c.args.self.now.parts.entries.now c.loop-routine.routine).count ≤ length c.args.self.now.parts.rows.now
 within c = omega (arith, inside c.args.self.now.parts.entries.now c.loop-routine.routine c.loop-routine-test.true, c.args.self.now.entries.all)
 
+body_is : (c : After-malformed_in) → c.split_at.result.0.now ≡ take (entry_at c.args.self.now.parts.entries.now c.loop-routine.routine).count c.loop-routine.rest.now
+body_is c = c.split_at.ensures.front ∙ ap (λ n. take n c.loop-routine.rest.now) c.from.ensures
+
 -- what malformed_in says of them, by their places
 routine_first : (c : After-malformed_in) → position_from (λ row. not (well_formed row)) 0 c.split_at.result.0.now
     ≡ first_failing (formed c.args.self.now.parts.entries.now c.args.self.now.parts.rows.now c.loop-routine.routine) (entry_at c.args.self.now.parts.entries.now c.loop-routine.routine).count 0
 routine_first c =
-    body_first c.args.self.now.parts.rows.now _ _ _ _ c.loop-routine.invariant.rest c.split_at.ensures.front (within c) c.args.self.now.parts.entries.now c.loop-routine.routine refl refl
+    body_first c.args.self.now.parts.rows.now _ _ _ _ c.loop-routine.invariant.rest (body_is c) (within c) c.args.self.now.parts.entries.now c.loop-routine.routine refl refl
 
 pub overflow_cast-result-in-Some : goal.overflow_cast-result-in-Some
 overflow_cast-result-in-Some c =
@@ -53,9 +56,9 @@ loop-routine-preserved c =
     let first = c.in_default.ensures.first ∙ routine_first back in
     let more = ap (before es) (add-one r) in
     record {
-      rest = c.split_at.ensures.back ∙ ap (drop (entry_at es r).count) c.loop-routine.invariant.rest ∙ drop-drop (entry_at es r).count (before es r) rs ∙ ap (λ k. drop k rs) (sym more);
+      rest = c.split_at.ensures.back ∙ ap (λ n. drop n c.loop-routine.rest.now) c.from.ensures ∙ ap (drop (entry_at es r).count) c.loop-routine.invariant.rest ∙ drop-drop (entry_at es r).count (before es r) rs ∙ ap (λ k. drop k rs) (sym more);
       first = sym (place_step (formed es rs) (λ k. (entry_at es k).count) (length es) r None c.loop-routine-test.true first) ∙ c.loop-routine.invariant.first;
-      words = λ k h. words_more rs _ _ _ _ c.loop-routine.invariant.rest c.split_at.ensures.front (within back) c.loop-routine.invariant.words (c.in_default.ensures.words refl) k (omega (arith, more, h));
+      words = λ k h. words_more rs _ _ _ _ c.loop-routine.invariant.rest (body_is back) (within back) c.loop-routine.invariant.words (c.in_default.ensures.words refl) k (omega (arith, more, h));
     }
 
 pub returns-clause-first : goal.returns-clause-first
