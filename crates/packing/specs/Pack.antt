@@ -43,14 +43,18 @@ if_counted es rs im rest =
     (unless_wrong (first_failing (entry_right es) (length es) 0)
     (provided (length rs == total es) (author 3 (length es - 1) 0) rest))
 
+-- what is answered where n bytes are to be written into so many
+abbrev pub fitting : ℕ → ℕ → Result ℕ Values
+fitting n room = provided (nat_le n room) (caller 13) (Ok n)
+
 -- what pack answers over an output of so many bytes
 abbrev pub packing : List Entry → List Row → List ℕ → ℕ → Result ℕ Values
-packing es rs im room =
-    if_counted es rs im
-    (unless_malformed (malformed es rs)
-    (provided (nat_le (size es im) room) (caller 13)
-    (Ok (size es im))))
+packing es rs im room = if_counted es rs im (unless_malformed (malformed es rs) (fitting (size es im) room))
+
+-- the output after an answer: the module is written from its start, or nothing is
+abbrev pub written : Result ℕ Values → List Entry → List Row → List ℕ → List ℕ → List ℕ
+written answer es rs im out = cond (is_ok answer) (packed es rs im ++ drop (size es im) out) out
 
 -- the output after pack
 abbrev pub output_after : List Entry → List Row → List ℕ → List ℕ → List ℕ
-output_after es rs im out = cond (is_ok (packing es rs im (length out))) (packed es rs im ++ drop (size es im) out) out
+output_after es rs im out = written (packing es rs im (length out)) es rs im out
