@@ -2,7 +2,6 @@ pub mod Again
 pub mod Blocks
 pub mod Bodies
 pub mod Digits
-pub mod Formed
 pub mod Passed
 pub mod Recovers
 pub mod Repack

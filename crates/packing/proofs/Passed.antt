@@ -1,7 +1,8 @@
 -- Entries, rows and image that pass the tests of pack.
-use Rattle.std.proofs.Common.{◌≡◌, ℕ, zero, suc, ◌+◌, ◌-◌, ◌^◌, ◌<◌, ◌≤◌, true, List, length, Some, None, Ok, Option, Result, sym, refl, ◌∙◌, subst, ⊎_elim, arith}
+use Rattle.std.proofs.Common.{◌≡◌, ℕ, zero, suc, ◌+◌, ◌-◌, ◌^◌, ◌<◌, ◌≤◌, true, List, length, None, Ok, Result, sym, ◌∙◌, subst, ⊎_elim, arith}
 use Rattle.std.proofs.lemmas.Bool.{cases_lt}
 use Rattle.std.proofs.lemmas.Bool.Decides.{nat_tests}
+use Rattle.std.proofs.lemmas.Grind.{common_steps}
 use Rattle.refusal.specs.Values.{Values}
 use Rattle.isa.specs.declared.row.Row.{Row}
 use Rattle.isa.specs.Form.{well_formed}
@@ -13,21 +14,18 @@ use Rattle.packing.specs.Pack.{counts_right, entry_right, formed, malformed}
 use Rattle.packing.specs.Packed.{entry_at, row_at, before, total}
 use Rattle.packing.specs.Tested.{EntriesRight, RowsRight}
 
-none_wrong : (o : Option ℕ) (t x : ℕ) → ◌≡◌ {A = Result ℕ Values} (Ok t) (unless_wrong o (Ok x)) → (o ≡ None) × (t ≡ x)
-none_wrong None t x e = (refl, grind arith)
-none_wrong (Some r) t x e = absurd (grind arith)
-
 pub entries_right : (es : List Entry) (rs : List Row) (im : List ℕ) → counts_right es im ≡ true → (t : ℕ)
     → ◌≡◌ {A = Result ℕ Values} (Ok t) (unless_wrong (first_failing (entry_right es) (length es) 0) (Ok (total es))) → t ≤ 4096 → length rs ≡ t → EntriesRight es rs im
 entries_right es rs im counts t sum short all =
-    let right = none_wrong (first_failing (entry_right es) (length es) 0) t (total es) sum in
+    let right : first_failing (entry_right es) (length es) 0 ≡ None = grind (arith, common_steps) in
+    let whole : t ≡ total es = grind (arith, common_steps) in
     record {
       some = grind (arith, nat_tests);
       few = grind (arith, nat_tests);
       small = grind (arith, nat_tests);
-      right = λ r h. first_none (entry_right es) (length es) 0 right.0 r (omega arith) (omega arith);
-      short = omega (arith, right.1);
-      all = all ∙ right.1;
+      right = λ r h. first_none (entry_right es) (length es) 0 right r (omega arith) (omega arith);
+      short = omega arith;
+      all = all ∙ whole;
     }
 
 -- every instruction stands in a routine

@@ -1,33 +1,18 @@
 -- What comes back of a packed module.
-use Rattle.std.proofs.Common.{◌≡◌, ℕ, Bool, true, false, cond, ◌&&◌, eqb, leb, List, ◌++◌, length, take, drop, is_ok, Some, None, Ok, Err, Option, Result, sym, refl, ap, ◌∙◌, arith}
+use Rattle.std.proofs.Common.{◌≡◌, ℕ, Bool, true, false, cond, ◌&&◌, leb, List, ◌++◌, length, take, drop, is_ok, Ok, Err, Result, sym, refl, ap, ◌∙◌, arith}
 use Rattle.std.proofs.lemmas.List.FromFn.{length-map-range_with_len}
 use Rattle.std.proofs.lemmas.List.{take_at}
+use Rattle.std.proofs.lemmas.Grind.{common_steps}
 use Rattle.refusal.specs.Values.{Values, caller}
-use Rattle.refusal.specs.declared.Place.{Place}
 use Rattle.isa.specs.declared.row.Row.{Row}
 use Rattle.module.specs.declared.entry.Entry.{Entry}
 use Rattle.module.specs.declared.shape.ShapeRow.{ShapeRow}
-use Rattle.module.specs.First.{first_failing}
-use Rattle.module.specs.Layout.{routines, total, provided, unless_wrong}
+use Rattle.module.specs.Layout.{routines, total, provided}
 use Rattle.module.specs.Unpack.{entry_of, body_row, roomy, unpacking, entries_after, rows_after}
 use Rattle.module.specs.Verdict.{checking, sheet_after}
-use Rattle.packing.specs.Pack.{counts_right, entry_right, malformed, unless_malformed, size, if_ok, packing, output_after}
-use Rattle.packing.specs.Packed as parts
+use Rattle.packing.specs.Pack.{size, if_ok, packing, output_after}
 use Rattle.packing.specs.Packed.{packed}
 use Rattle.packing.specs.Shows.{Shows, recovering, sheet_then, returned}
-
--- what an accepting test leaves
-provided_value : {X : Type 0} (b : Bool) (v : Values) (rest : Result X Values) (x : X) → Ok x ≡ provided b v rest → Ok x ≡ rest
-provided_value true v rest x e = e
-provided_value false v rest x e = absurd (grind arith)
-
-wrong_value : {X : Type 0} (o : Option ℕ) (rest : Result X Values) (x : X) → Ok x ≡ unless_wrong o rest → Ok x ≡ rest
-wrong_value None rest x e = e
-wrong_value (Some r) rest x e = absurd (grind arith)
-
-malformed_value : {X : Type 0} (o : Option Place) (rest : Result X Values) (x : X) → Ok x ≡ unless_malformed o rest → Ok x ≡ rest
-malformed_value None rest x e = e
-malformed_value (Some p) rest x e = absurd (grind arith)
 
 choice : {X : Type 0} (b : Bool) (v : Values) (x : X) → is_ok (provided b v (Ok x)) ≡ b
 choice true v x = refl
@@ -38,13 +23,7 @@ module _ (es : List Entry) (rs : List Row) (im : List ℕ) (room n : ℕ) (v : O
   p = packed es rs im
 
   size_is : n ≡ size es im
-  size_is =
-      let a = provided_value (counts_right es im) _ _ n v in
-      let b = wrong_value (first_failing (entry_right es) (length es) 0) _ n a in
-      let c = provided_value (eqb (length rs) (parts.total es)) _ _ n b in
-      let d = malformed_value (malformed es rs) _ n c in
-      let e : Ok n ≡ Ok (size es im) = provided_value (leb (size es im) room) _ _ n d in
-      grind arith
+  size_is = grind (arith, common_steps)
 
   pub written : (out out' : List ℕ) (k : ℕ) → length out ≡ room → out' ≡ output_after es rs im out → k ≡ n → take k out' ≡ p
   written out out' k long e q =

@@ -1,7 +1,8 @@
 -- The steps of a round trip.
-use Rattle.std.proofs.Common.{◌≡◌, ℕ, Bool, true, false, cond, ◌&&◌, leb, List, ◌++◌, length, take, drop, Ok, Err, Result, sym, refl, ap, ◌∙◌, arith}
+use Rattle.std.proofs.Common.{◌≡◌, ℕ, true, false, cond, ◌&&◌, leb, List, ◌++◌, length, take, drop, Ok, Err, Result, sym, ap, ◌∙◌, arith}
 use Rattle.std.proofs.lemmas.List.{take_at}
 use Rattle.std.proofs.lemmas.Bool.{cond-true}
+use Rattle.std.proofs.lemmas.Grind.{common_steps}
 use Rattle.refusal.specs.Values.{Values, caller}
 use Rattle.isa.specs.declared.row.Row.{Row}
 use Rattle.module.specs.declared.entry.Entry.{Entry}
@@ -15,18 +16,9 @@ use Rattle.packing.proofs.Again.{packing_is, output_is}
 use Rattle.packing.proofs.Repack.{entries_long, rows_long}
 use Rattle.packing.specs.Shows.{repacking, repacked_into}
 
--- a test that refused was false, and one that did not was true
-pub refused : {X : Type 0} (b : Bool) (v : Values) (x : X) (e : Values) → ◌≡◌ {A = Result X Values} (Err e) (provided b v (Ok x)) → (b ≡ false) × (e ≡ v)
-refused true v x e h = absurd (grind arith)
-refused false v x e h = (refl, grind arith)
-
-pub granted : {X : Type 0} (b : Bool) (v : Values) (x y : X) → ◌≡◌ {A = Result X Values} (Ok y) (provided b v (Ok x)) → (b ≡ true) × (y ≡ x)
-granted true v x y h = (refl, grind arith)
-granted false v x y h = absurd (grind arith)
-
 module _ (bs : List ℕ) (es rs : ℕ) (e : Values) (h : ◌≡◌ {A = Result (ℕ × ℕ) Values} (Err e) (unpacking bs es rs)) where
   no_room : (roomy bs es rs ≡ false) × (e ≡ caller 13)
-  no_room = refused (roomy bs es rs) (caller 13) _ e h
+  no_room = (grind (arith, common_steps), grind (arith, common_steps))
 
   pub refused_verdict : (room : ℕ) → Err e ≡ repacking bs es rs room
   refused_verdict room = ap Err no_room.1 ∙ ap (λ b. provided (b && leb (length bs) room) (caller 13) (Ok (length bs))) (sym no_room.0)
@@ -42,7 +34,7 @@ module _ (bs : List ℕ) (small : Octets bs) (ok : Laid bs) (kept : KeptEverywhe
     (h : ◌≡◌ {A = Result (ℕ × ℕ) Values} (Ok (n, t)) (unpacking bs (length es) (length rs))) (es' : List Entry) (rs' : List Row) (im : List ℕ)
     (e : es' ≡ entries_after bs es rs) (r : rs' ≡ rows_after bs es rs) (m : im ≡ image bs) where
   room_enough : (roomy bs (length es) (length rs) ≡ true) × (◌≡◌ {A = ℕ × ℕ} (n, t) (routines bs, total bs))
-  room_enough = granted (roomy bs (length es) (length rs)) (caller 13) _ (n, t) h
+  room_enough = (grind (arith, common_steps), grind (arith, common_steps))
 
   entries_front : (k : ℕ) → k ≡ n → take k es' ≡ entries bs
   entries_front k q =

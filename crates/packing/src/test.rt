@@ -96,7 +96,8 @@ impl<'a> Counted<'a> {
         4 + 8 * entries.len() + 8 * rows.len() + image.len()
     }
 
-    // The first place whose row is not well formed.
+    // The first place whose row is not well formed. The loop is that of module's breach: a function for both would say more of
+    // the calls of a closure, and of what they tell of each row, than the loop has lines.
     fn first_malformed(&self) -> Option<Place>
         ensures first { result ≡ malformed self.now.parts.entries.now self.now.parts.rows.now }
         ensures words { result ≡ None → (k : ℕ) → k < length self.now.parts.rows.now → (row_at self.now.parts.rows.now k).n < 2 ^ 32 }
