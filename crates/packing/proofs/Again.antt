@@ -1,7 +1,9 @@
 -- A checked module, taken apart, passes the tests of pack.
-use Rattle.std.proofs.Common.{◌≡◌, ℕ, zero, suc, ◌+◌, ◌-◌, ◌*◌, ◌<◌, ◌≤◌, Bool, true, false, cond, not, ◌&&◌, ◌||◌, eqb, leb, List, ◌++◌, length, drop, is_ok, None, Ok, sym, refl, ap, ◌∙◌, subst, ⊎_elim, arith}
-use Rattle.std.proofs.lemmas.Bool.{and_from, cases_eq, or_left, or_right, not_from_false, eq-eqb, ne_eqb, le-leb}
-use Rattle.refusal.specs.Values.{Values, author, caller}
+use Rattle.std.proofs.Common.{◌≡◌, ℕ, zero, suc, ◌+◌, ◌-◌, ◌*◌, ◌<◌, ◌≤◌, Bool, true, cond, eqb, leb, List, ◌++◌, length, drop, is_ok, None, Ok, sym, refl, ap, ◌∙◌, arith}
+use Rattle.std.proofs.lemmas.Bool.{eq-eqb}
+use Rattle.std.proofs.lemmas.Bool.Decides.{nat_tests}
+use Rattle.std.proofs.lemmas.Grind.{common_steps}
+use Rattle.refusal.specs.Values.{author, caller}
 use Rattle.isa.specs.Form.{well_formed}
 use Rattle.module.specs.Bytes.{Octets}
 use Rattle.module.specs.First.{first_failing, first_place, or_later}
@@ -27,23 +29,15 @@ module _ (bs : List ℕ) (small : Octets bs) (ok : Laid bs) (kept : KeptEverywhe
       let some : 1 ≤ length (entries bs) = omega (arith, n, ok.some) in
       let few : length (entries bs) ≤ 64 = omega (arith, n, ok.few) in
       let short : length (image bs) ≤ 4096 = omega (arith, image_long bs small ok, ok.image) in
-      and_from _ _ (le-leb 1 _ some) (and_from _ _ (le-leb _ 64 few) (le-leb _ 4096 short))
-
-  main_right : (r : ℕ) → (not (eqb r 0) || (eqb (layout.arguments bs r) 0 && eqb (layout.results bs r) 0)) ≡ true
-  main_right r =
-      ⊎_elim
-      (λ e. or_right _ _ (subst (λ x. (eqb (layout.arguments bs x) 0 && eqb (layout.results bs x) 0) ≡ true) (sym e) (and_from _ _ (eq-eqb _ 0 ok.main.0) (eq-eqb _ 0 ok.main.1))))
-      (λ e. or_left _ _ (not_from_false _ (ne_eqb r 0 e)))
-      (cases_eq r 0)
+      grind (arith, nat_tests)
 
   entry_right_lem : (r : ℕ) → r < layout.routines bs → entry_right (entries bs) r ≡ true
   entry_right_lem r h =
       let e = ok.entry r h in
-      let x = entry_is bs small ok r h in
-      let b = before_is bs small ok r (omega arith) in
       let most : layout.before bs r + layout.count bs r ≤ 4096 = omega (arith, e.inside, ok.short) in
-      (λ i. leb 1 (x i).count && (leb (x i).arguments 32 && (leb (x i).results 8 && ((not (eqb r 0) || (eqb (x i).arguments 0 && eqb (x i).results 0)) && leb (b i + (x i).count) 4096))))
-      ∙ and_from _ _ (le-leb 1 _ e.full) (and_from _ _ (le-leb _ 32 e.takes) (and_from _ _ (le-leb _ 8 e.gives) (and_from _ _ (main_right r) (le-leb _ 4096 most))))
+      let taken : r ≡ 0 → layout.arguments bs r ≡ 0 = λ z. ap (layout.arguments bs) z ∙ ok.main.0 in
+      let given : r ≡ 0 → layout.results bs r ≡ 0 = λ z. ap (layout.results bs) z ∙ ok.main.1 in
+      (λ i. layout.right (entry_is bs small ok r h i) r (before_is bs small ok r (omega arith) i)) ∙ grind (arith, nat_tests)
 
   none_wrong : first_failing (entry_right (entries bs)) (length (entries bs)) 0 ≡ None
   none_wrong = first_all (entry_right (entries bs)) (length (entries bs)) 0 (λ j h. entry_right_lem j (omega (arith, entries_long bs small ok)))
@@ -78,11 +72,7 @@ module _ (bs : List ℕ) (small : Octets bs) (ok : Laid bs) (kept : KeptEverywhe
       (layout.provided (leb (size_is i) room) (caller 13)
       (Ok (size_is i))))))
 
-  choice : (b : Bool) (v : Values) (x : ℕ) → is_ok (layout.provided b v (Ok x)) ≡ b
-  choice true v x = refl
-  choice false v x = refl
-
   pub output_is : (out : List ℕ) → output_after (entries bs) (rows bs) (image bs) out ≡ cond (leb (length bs) (length out)) (bs ++ drop (length bs) out) out
   output_is out =
-      let tests = ap is_ok (packing_is (length out)) ∙ choice (leb (length bs) (length out)) (caller 13) (length bs) in
+      let tests : is_ok (packing (entries bs) (rows bs) (image bs) (length out)) ≡ leb (length bs) (length out) = ap is_ok (packing_is (length out)) ∙ grind (arith, common_steps) in
       λ i. cond (tests i) (repacked bs small ok i ++ drop (size_is i) out) out

@@ -1,8 +1,9 @@
 -- What a packed module shows: its entries, rows and image.
-use Rattle.std.proofs.Common.{◌≡◌, ℕ, zero, suc, ◌+◌, ◌-◌, ◌*◌, ◌<◌, ◌≤◌, Bool, true, not, ◌&&◌, ◌||◌, eqb, leb, List, ◌++◌, map, length, get_or, drop, None, Ok, sym, refl, ap, ◌∙◌, append_assoc, arith, length-append}
+use Rattle.std.proofs.Common.{◌≡◌, ℕ, zero, suc, ◌+◌, ◌-◌, ◌*◌, ◌<◌, ◌≤◌, Bool, true, ◌&&◌, eqb, leb, List, ◌++◌, map, length, get_or, drop, None, Ok, sym, refl, ap, ◌∙◌, append_assoc, arith, length-append}
 use Rattle.std.proofs.lemmas.List.FromFn.{fill_by_all}
 use Rattle.std.proofs.lemmas.List.{get_or_append_left, get_or-append_right, get_or-append-add, drop_at}
 use Rattle.std.proofs.lemmas.Bool.{and_from, cond-true, eq-eqb, le-leb}
+use Rattle.std.proofs.lemmas.Bool.Decides.{nat_tests}
 use Rattle.std.specs.List.{range_with_len}
 use Rattle.refusal.specs.Values.{author}
 use Rattle.isa.specs.declared.row.Row.{Row}
@@ -12,7 +13,7 @@ use Rattle.module.specs.Bytes.{byte, four}
 use Rattle.module.specs.First.{first_failing}
 use Rattle.module.specs.Layout as layout
 use Rattle.module.specs.Unpack.{entry_of, body_row, entries, rows, image}
-use Rattle.packing.specs.Pack.{entry_right, size}
+use Rattle.packing.specs.Pack.{size}
 use Rattle.packing.specs.Packed.{low2, no_entry, no_row, entry_at, row_at, before, total, entry_bytes, row_bytes, blocks, packed}
 use Rattle.packing.specs.Shows.{Shows}
 use Rattle.packing.specs.Tested.{EntriesRight, RowsRight}
@@ -140,20 +141,11 @@ module _ (es : List Entry) (rs : List Row) (im : List ℕ) (ok : EntriesRight es
   entry_right_lem : (r : ℕ) → r < n → layout.entry_right p r ≡ true
   entry_right_lem r h =
       let b = before_is r (omega arith) in
-      let c = count_is r h in
-      let a = arguments_is r h in
-      let g = results_is r h in
-      let same : layout.entry_right p r ≡ (eqb (4 + 8 * n + 8 * before es r) (4 + 8 * n + 8 * before es r) && entry_right es r)
-      = λ i. eqb (offset_is r h i) (4 + 8 * routines_is i + 8 * b i)
-      && (leb 1 (c i) && (leb (a i) 32 && (leb (g i) 8 && ((not (eqb r 0) || (eqb (a i) 0 && eqb (g i) 0)) && leb (b i + c i) 4096)))) in
-      same ∙ and_from _ _ (eq-eqb (4 + 8 * n + 8 * before es r) _ refl) (ok.right r h)
+      (λ i. eqb (offset_is r h i) (4 + 8 * routines_is i + 8 * b i) && layout.right (entry_is r h i) r (b i))
+      ∙ and_from _ _ (eq-eqb (4 + 8 * n + 8 * before es r) _ refl) (ok.right r h)
 
   counts_right_lem : layout.counts_right p ≡ true
-  counts_right_lem =
-      let one : leb 1 n ≡ true = le-leb 1 n ok.some in
-      let few : leb n 64 ≡ true = le-leb n 64 ok.few in
-      let small : leb (length im) 4096 ≡ true = le-leb (length im) 4096 ok.small in
-      (λ i. leb 1 (routines_is i) && (leb (routines_is i) 64 && leb (image_length_is i) 4096)) ∙ and_from _ _ one (and_from _ _ few small)
+  counts_right_lem = (λ i. layout.allowed (routines_is i) (image_length_is i)) ∙ grind (arith, nat_tests)
 
   opens : layout.opening p ≡ Ok (layout.counts p)
   opens =
