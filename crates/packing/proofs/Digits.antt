@@ -1,46 +1,29 @@
 -- Numbers and their bytes.
-use Rattle.std.proofs.Common.{◌≡◌, ℕ, ◌+◌, ◌*◌, ◌/◌, ◌%◌, ◌<◌, [], ◌∷◌, sym, ap, ◌∙◌, mod-eq_of_lt, arith}
-use native.Mathlib.Nat.{div-div-eq-div-mul}
-use lib.Arith.{digits_div, digits_mod}
-use Rattle.std.proofs.lemmas.Nat.{div-add-mod', div_below}
+use Rattle.std.proofs.Common.{◌≡◌, ℕ, zero, suc, ◌+◌, ◌*◌, ◌/◌, ◌%◌, ◌<◌, List, [], ◌∷◌, get_or, refl, arith}
+use Rattle.std.proofs.lemmas.Nat.{le_bytes_2, le_bytes_4, from_le_bytes-to_le_bytes_2, from_le_bytes-to_le_bytes_4}
 use Rattle.packing.specs.Packed.{low2, low4}
 
--- q * m + r by its digits
-modulo : (x q m r : ℕ) → x ≡ q * m + r → r < m → x % m ≡ r
-modulo x q m r e h = ap (λ y. y % m) e ∙ digits_mod q h
+none : (i : ℕ) → get_or [] i 0 < 256
+none i = omega arith
 
-over : (x q m r : ℕ) → x ≡ q * m + r → r < m → x / m ≡ q
-over x q m r e h = ap (λ y. y / m) e ∙ digits_div q h
+-- one byte more
+bytes_more : (a : ℕ) (bs : List ℕ) → a < 256 → ((i : ℕ) → get_or bs i 0 < 256) → (i : ℕ) → get_or (a ∷ bs) i 0 < 256
+bytes_more a bs h p zero = h
+bytes_more a bs h p (suc i) = p i
 
 -- bytes to a number and back
 pub low2_is : (a b : ℕ) → a < 256 → b < 256 → low2 (a + 256 * b) ≡ a ∷ b ∷ []
-low2_is a b p q =
-    let x = modulo (a + 256 * b) b 256 a (omega arith) p in
-    let y = ap (λ z. z % 256) (over (a + 256 * b) b 256 a (omega arith) p) ∙ mod-eq_of_lt q in
-    λ i. x i ∷ y i ∷ []
+low2_is a b p q = le_bytes_2 (a ∷ b ∷ []) (a + 256 * b) refl (bytes_more a (b ∷ []) p (bytes_more b [] q none)) (omega arith)
 
 pub low4_is : (a b c d : ℕ) → a < 256 → b < 256 → c < 256 → d < 256 → low4 (a + 256 * b + 65536 * c + 16777216 * d) ≡ a ∷ b ∷ c ∷ d ∷ []
 low4_is a b c d p q r s =
-    let n = a + 256 * b + 65536 * c + 16777216 * d in
-    let w = modulo n (b + 256 * c + 65536 * d) 256 a (omega arith) p in
-    let x = ap (λ z. z % 256) (over n (b + 256 * c + 65536 * d) 256 a (omega arith) p) ∙ modulo (b + 256 * c + 65536 * d) (c + 256 * d) 256 b (omega arith) q in
-    let y = ap (λ z. z % 256) (over n (c + 256 * d) 65536 (a + 256 * b) (omega arith) (omega arith)) ∙ modulo (c + 256 * d) d 256 c (omega arith) r in
-    let z = ap (λ z. z % 256) (over n d 16777216 (a + 256 * b + 65536 * c) (omega arith) (omega arith)) ∙ mod-eq_of_lt s in
-    λ i. w i ∷ x i ∷ y i ∷ z i ∷ []
+    le_bytes_4 (a ∷ b ∷ c ∷ d ∷ []) (a + 256 * b + 65536 * c + 16777216 * d) refl
+    (bytes_more a (b ∷ c ∷ d ∷ []) p (bytes_more b (c ∷ d ∷ []) q (bytes_more c (d ∷ []) r (bytes_more d [] s none))))
+    (omega arith)
 
 -- a number to bytes and back
 pub two_back : (x : ℕ) → x < 65536 → x % 256 + 256 * (x / 256 % 256) ≡ x
-two_back x h =
-    let small : x / 256 % 256 ≡ x / 256 = mod-eq_of_lt (div_below x 256 256 (omega arith) (omega arith)) in
-    omega (arith, div-add-mod' x 256, small)
+two_back x h = omega (arith, from_le_bytes-to_le_bytes_2 x h)
 
 pub four_back : (x : ℕ) → x < 4294967296 → x % 256 + 256 * (x / 256 % 256) + 65536 * (x / 65536 % 256) + 16777216 * (x / 16777216 % 256) ≡ x
-four_back x h =
-    let y = x / 256 in
-    let z = y / 256 in
-    let w = z / 256 in
-    let ey : x / 65536 ≡ z = sym (div-div-eq-div-mul x 256 256) in
-    let ez : x / 16777216 ≡ w = sym (div-div-eq-div-mul x 65536 256) ∙ ap (λ v. v / 256) ey in
-    let few : w < 256 = omega (arith, ez, div_below x 16777216 256 (omega arith) (omega arith)) in
-    let top : w % 256 ≡ w = mod-eq_of_lt few in
-    omega (arith, div-add-mod' x 256, div-add-mod' y 256, div-add-mod' z 256, ap (λ v. v % 256) ey, ap (λ v. v % 256) ez, top)
+four_back x h = omega (arith, from_le_bytes-to_le_bytes_4 x h)
