@@ -7,7 +7,7 @@ use Rattle.refusal.specs.Values.{Values, caller}
 use Rattle.isa.specs.declared.row.Row.{Row}
 use Rattle.module.specs.declared.entry.Entry.{Entry}
 use Rattle.module.specs.declared.shape.ShapeRow.{ShapeRow}
-use Rattle.module.specs.Layout.{routines, total, provided}
+use Rattle.module.specs.Layout.{routines, total, counts, provided, opening}
 use Rattle.module.specs.Unpack.{entry_of, body_row, roomy, unpacking, entries_after, rows_after}
 use Rattle.module.specs.Verdict.{checking, sheet_after}
 use Rattle.packing.specs.Pack.{size, if_ok, packing, output_after}
@@ -62,3 +62,9 @@ module _ (es : List Entry) (rs : List Row) (im : List ℕ) (room n : ℕ) (v : O
     rows_back brs' w =
         w ∙ ap (λ b. rows_after b bes brs) q
         ∙ (λ i. cond (roomy_is (length bes) (length brs) r bs q e i) (shows.bodies i ++ drop (total_is i) brs) brs)
+
+  -- what pack wrote opens
+  pub unopened : (out out' : List ℕ) (k : ℕ) → length out ≡ room → out' ≡ output_after es rs im out → k ≡ n → (e : Values) → Err e ≡ opening (take k out') → ⊥
+  unopened out out' k long w q e h =
+      let bad : Err e ≡ Ok (counts p) = h ∙ ap opening (written out out' k long w q) ∙ shows.opens in
+      absurd (grind arith)

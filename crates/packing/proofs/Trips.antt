@@ -1,5 +1,5 @@
 -- The steps of a round trip.
-use Rattle.std.proofs.Common.{◌≡◌, ℕ, true, false, cond, ◌&&◌, leb, List, ◌++◌, length, take, drop, Ok, Err, Result, sym, ap, ◌∙◌, arith}
+use Rattle.std.proofs.Common.{◌≡◌, ℕ, true, cond, ◌&&◌, leb, List, ◌++◌, length, take, drop, Ok, Result, sym, ap, ◌∙◌, arith}
 use Rattle.std.proofs.lemmas.List.{take_at}
 use Rattle.std.proofs.lemmas.Bool.{cond-true}
 use Rattle.std.proofs.lemmas.Grind.{common_steps}
@@ -15,16 +15,6 @@ use Rattle.packing.specs.Pack.{packing, output_after}
 use Rattle.packing.proofs.Again.{packing_is, output_is}
 use Rattle.packing.proofs.Repack.{entries_long, rows_long}
 use Rattle.packing.specs.Shows.{repacking, repacked_into}
-
-module _ (bs : List ℕ) (es rs : ℕ) (e : Values) (h : ◌≡◌ {A = Result (ℕ × ℕ) Values} (Err e) (unpacking bs es rs)) where
-  no_room : (roomy bs es rs ≡ false) × (e ≡ caller 13)
-  no_room = (grind (arith, common_steps), grind (arith, common_steps))
-
-  pub refused_verdict : (room : ℕ) → Err e ≡ repacking bs es rs room
-  refused_verdict room = ap Err no_room.1 ∙ ap (λ b. provided (b && leb (length bs) room) (caller 13) (Ok (length bs))) (sym no_room.0)
-
-  pub refused_output : (out : List ℕ) → out ≡ repacked_into bs es rs out
-  refused_output out = ap (λ b. cond (b && leb (length bs) (length out)) (bs ++ drop (length bs) out) out) (sym no_room.0)
 
 -- a front of a list that was written over the front of another
 front : {X : Type 0} (xs ys written : List X) (m n : ℕ) → m ≡ n → length xs ≡ n → written ≡ xs ++ ys → take m written ≡ xs

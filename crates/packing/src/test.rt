@@ -30,7 +30,7 @@ pub(crate) struct Tested<'a> {
     ghost rows: { RowsRight counted.parts.rows.now },
 }
 
-// The number of instructions in all routines, if every entry is right.
+// The number of instructions in all routines, if every entry is right. In open each entry has an offset to test as well.
 fn sum_entries(entries: &[Entry]) -> Result<usize, Refusal>
     requires { length entries.now ≤ 64 }
     ensures verdict { told result ≡ unless_wrong (first_failing (entry_right entries.now) (length entries.now) 0) (Ok (total entries.now)) }
@@ -96,8 +96,8 @@ impl<'a> Counted<'a> {
         4 + 8 * entries.len() + 8 * rows.len() + image.len()
     }
 
-    // The first place whose row is not well formed. The loop is that of module's breach: a function for both would say more of
-    // the calls of a closure, and of what they tell of each row, than the loop has lines.
+    // The first place whose row is not well formed.
+    // A function for this and module's breach would have more clauses on a closure's calls than the loop has lines.
     fn first_malformed(&self) -> Option<Place>
         ensures first { result ≡ malformed self.now.parts.entries.now self.now.parts.rows.now }
         ensures words { result ≡ None → (k : ℕ) → k < length self.now.parts.rows.now → (row_at self.now.parts.rows.now k).n < 2 ^ 32 }

@@ -4,7 +4,7 @@ use Rattle.refusal.specs.Values.{told, values_of}
 use Rattle.module.specs.Told.{bytes_of}
 use Rattle.module.specs.Verdict.{checking}
 use Rattle.packing.specs.Packed.{packed}
-use Rattle.packing.proofs.Recovers.{written, refused_by_check, sheet_then_lem, recovered_verdict, entries_back, rows_back}
+use Rattle.packing.proofs.Recovers.{written, unopened, refused_by_check, sheet_then_lem, recovered_verdict, entries_back, rows_back}
 use Rattle.packing.proofs.round.recover.Goals as goal
 use Rattle.packing.proofs.round.recover.Goals.{After-into_checked}
 
@@ -16,6 +16,14 @@ opened_bytes c =
     let n = c.in_ok-size.size in
     let all : n - 0 ≡ n = omega arith in
     c.in_ok-open.ensures.shows ∙ written p.entries.now p.rows.now p.image.now (length c.args.output.now) n done.verdict done.shows c.args.output.now _ (n - 0) refl done.output all
+
+pub returns-in_err-open : goal.returns-in_err-open
+returns-in_err-open c =
+    let p = c.args.parts in
+    let done = c.in_ok-size.ensures in
+    let n = c.in_ok-size.size in
+    let all : n - 0 ≡ n = omega arith in
+    absurd (unopened p.entries.now p.rows.now p.image.now (length c.args.output.now) n done.verdict done.shows c.args.output.now _ (n - 0) refl done.output all _ c.in_err-open.ensures.verdict)
 
 pub returns-in_err-checked-clause-verdict : goal.returns-in_err-checked-clause-verdict
 returns-in_err-checked-clause-verdict c =
