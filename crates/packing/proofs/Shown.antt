@@ -145,7 +145,7 @@ module _ (es : List Entry) (rs : List Row) (im : List ℕ) (ok : EntriesRight es
       ∙ and_from _ _ (eq-eqb (4 + 8 * n + 8 * before es r) _ refl) (ok.right r h)
 
   counts_right_lem : layout.counts_right p ≡ true
-  counts_right_lem = (λ i. layout.allowed (routines_is i) (image_length_is i)) ∙ grind (arith, nat_tests)
+  counts_right_lem = (λ i. layout.admitted (routines_is i) (image_length_is i)) ∙ grind (arith, nat_tests)
 
   opens : layout.opening p ≡ Ok (layout.counts p)
   opens =

@@ -6,11 +6,11 @@ use Rattle.isa.specs.declared.row.Row.{Row}
 use Rattle.isa.specs.Form.{well_formed}
 use Rattle.module.specs.declared.entry.Entry.{Entry}
 use Rattle.module.specs.First.{first_failing, first_place}
-use Rattle.module.specs.Layout.{allowed, right, provided, unless_wrong}
+use Rattle.module.specs.Layout.{admitted, right, provided, unless_wrong}
 use Rattle.packing.specs.Packed.{entry_at, row_at, before, total, packed}
 
 abbrev pub counts_right : List Entry → List ℕ → Bool
-counts_right es im = allowed (length es) (length im)
+counts_right es im = admitted (length es) (length im)
 
 abbrev pub entry_right : List Entry → ℕ → Bool
 entry_right es r = right (entry_at es r) r (before es r)

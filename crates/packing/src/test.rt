@@ -72,7 +72,7 @@ impl<'a> Parts<'a> {
             rows,
             image,
         } = self;
-        if !limits::allow(entries.len(), image.len()) {
+        if !limits::admit(entries.len(), image.len()) {
             return Err(Refusal::Counts);
         }
         let total = sum_entries(entries)?;
