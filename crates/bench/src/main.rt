@@ -2,7 +2,7 @@
 
 #![tactic(auto)]
 
-ghost use Rattle.std.specs.Prelude.{◌≡◌, length, IfOk, string_bytes};
+ghost use Rattle.std.specs.Prelude.{◌≡◌, length, Some, IfOk, string_bytes};
 ghost use Rattle.refusal.specs.Values.{told};
 ghost use Rattle.module.specs.Verdict.{sheet_after};
 ghost use Rattle.bench.specs.Examined.{examined};
@@ -14,8 +14,8 @@ use module::opened::Counts;
 use module::shape::ShapeRow;
 use refusal::Refusal;
 use std::alloc::{AllocError, Global};
-use std::io;
 use std::io::Read;
+use std::{fmt, io};
 
 // The counts of a module, if it is accepted.
 fn examine(bytes: &[u8], sheet: &mut [ShapeRow]) -> Result<Counts, Refusal>
@@ -28,22 +28,23 @@ fn examine(bytes: &[u8], sheet: &mut [ShapeRow]) -> Result<Counts, Refusal>
     Ok(checked.counts())
 }
 
-// The line of an answer.
-fn line_of(heap: Global, outcome: Result<Counts, Refusal>) -> Result<String, AllocError>
-    ensures { IfOk result (λ s. string_bytes s ≡ line (told outcome)) }
-{
-    match outcome {
-        Ok(counts) => {
-            let routines = counts.routines;
-            let total = counts.total;
-            let image = counts.image;
-            format!(in heap; "accepted {routines} {total} {image}")
-        }
-        Err(refusal) => {
-            let number = refusal.number();
-            let routine = refusal.routine();
-            let instruction = refusal.instruction();
-            format!(in heap; "refused {number} {routine} {instruction}")
+// What bench says of a module.
+#[derive(Clone, Copy)]
+struct Outcome(Result<Counts, Refusal>);
+
+impl fmt::Display for Outcome {
+    ghost output = { λ outcome. Some (line (told outcome.0)) };
+
+    fn fmt<W: fmt::Write>(&self, f: &mut fmt::Formatter<W>) -> fmt::Result {
+        match self.0 {
+            Ok(
+                Counts {
+                    routines,
+                    image,
+                    total,
+                },
+            ) => write!(f, "accepted {routines} {total} {image}"),
+            Err(refusal) => write!(f, "{refusal}"),
         }
     }
 }
@@ -52,8 +53,7 @@ fn line_of(heap: Global, outcome: Result<Counts, Refusal>) -> Result<String, All
 fn report(heap: Global, bytes: &[u8], sheet: &mut [ShapeRow]) -> Result<String, AllocError>
     ensures { IfOk result (λ s. string_bytes s ≡ line (examined bytes.now (length sheet.old))) }
 {
-    let outcome = examine(bytes, sheet);
-    line_of(heap, outcome)
+    Outcome(examine(bytes, sheet)).to_string(heap)
 }
 
 fn main(rt: HostRuntime) -> io::Result<()> {

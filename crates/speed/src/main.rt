@@ -3,21 +3,21 @@
 
 #![tactic(auto)]
 
-use anyhow::anyhow;
+use anyhow::ensure;
 use isa::encode::encode;
 use isa::instr::{Instr, Operation, Test};
 use isa::row::Row;
 use module::entry::Entry;
 use module::limits;
 use module::open::open;
-use module::opened::Opened;
 use module::shape::ShapeRow;
 use packing::pack::pack;
 use packing::parts::Parts;
 use packing::round::repack;
+use refusal::Refusal;
 use std::alloc::{AllocError, Global};
 use std::env;
-use std::time::Instant;
+use std::time::{Clock, Instant};
 
 // Registers 0 and 1 are variables, register 2 is a constant.
 const BEGIN: [Instr; 3] = [Instr::New, Instr::New, Instr::Def { n: 1 }];
@@ -52,19 +52,8 @@ const NO_ENTRY: Entry = Entry {
     results: 0,
 };
 
-const NO_ROW: Row = Row {
-    op: 0,
-    a: 0,
-    b: 0,
-    c: 0,
-    n: 0,
-};
-
 fn push_rows(rows: &mut Vec<Row>, instrs: &[Instr]) -> Result<(), AllocError> {
-    for instr in instrs {
-        rows.push(encode(*instr))?;
-    }
-    Ok(())
+    rows.extend(instrs.iter().map(|instr| encode(*instr)))
 }
 
 // A module of 4 + 4 times so many instructions.
@@ -85,88 +74,63 @@ fn module_of(heap: Global, times: u16) -> anyhow::Result<Vec<u8>> {
         rows: rows.as_slice(),
         image: &[],
     };
-    let Ok(size) = pack(parts, bytes.as_mut_slice()) else {
-        return Err(anyhow!("the module is not packed"));
-    };
+    let size = pack(parts, bytes.as_mut_slice())?;
     bytes.truncate(size);
     Ok(bytes)
 }
 
-// The time of one check, in nanoseconds.
-fn time_check(
-    rt: &HostRuntime,
-    opened: &Opened,
-    sheet: &mut [ShapeRow],
+// The time of one piece of work, in nanoseconds, when it is done so often.
+fn time<F: FnMut() -> Result<(), Refusal>>(
+    rt: &impl Clock,
     rounds: u32,
-) -> anyhow::Result<u128> {
+    mut work: F,
+) -> anyhow::Result<u128>
+    requires { F.IsAlwaysCallable work }
+{
     let start = Instant::now(rt)?;
     for _ in 0..rounds {
-        if opened.check(sheet).is_err() {
-            return Err(anyhow!("the module is refused"));
-        }
+        work()?;
     }
     Ok(start.elapsed(rt)?.as_nanos() / u128::from(rounds.max(1)))
 }
 
-// The time to unpack a module and pack it again, in nanoseconds.
-fn time_repack(
-    rt: &HostRuntime,
-    bytes: &[u8],
-    sheet: &mut [ShapeRow],
+fn measure(
+    rt: &(impl Clock + Print + Eprint),
+    heap: Global,
+    times: u16,
     rounds: u32,
-) -> anyhow::Result<u128> {
-    let heap = rt.alloc();
-    let mut rows = vec![in heap; NO_ROW; limits::INSTRUCTIONS]?;
-    let mut output = vec![in heap; 0; limits::deciding_length()]?;
-    let Ok(opened) = open(bytes) else {
-        return Err(anyhow!("the module does not open"));
-    };
-    let Ok(()) = opened.check(sheet) else {
-        return Err(anyhow!("the module is refused"));
-    };
-    let checked = opened.take();
-    let start = Instant::now(rt)?;
-    for _ in 0..rounds {
-        let size = repack(
-            &checked,
-            &mut [NO_ENTRY; 1],
-            rows.as_mut_slice(),
-            output.as_mut_slice(),
-        );
-        if size.is_err() {
-            return Err(anyhow!("the module is not packed"));
-        }
-    }
-    Ok(start.elapsed(rt)?.as_nanos() / u128::from(rounds.max(1)))
-}
-
-fn measure(rt: &HostRuntime, times: u16, rounds: u32) -> anyhow::Result<()> {
-    let heap = rt.alloc();
+) -> anyhow::Result<()> {
     let bytes = module_of(heap, times)?;
     let mut sheet = vec![in heap; ShapeRow::BLANK; limits::INSTRUCTIONS]?;
-    let Ok(opened) = open(bytes.as_slice()) else {
-        return Err(anyhow!("the module does not open"));
-    };
+    let mut rows = vec![in heap; Row::default(); limits::INSTRUCTIONS]?;
+    let mut output = vec![in heap; 0; limits::deciding_length()]?;
+    let opened = open(bytes.as_slice())?;
     let total = opened.counts().total;
-    let check = time_check(rt, &opened, sheet.as_mut_slice(), rounds)?;
-    let both = time_repack(rt, bytes.as_slice(), sheet.as_mut_slice(), rounds)?;
+    let check = time(rt, rounds, || opened.check(sheet.as_mut_slice()))?;
+    opened.check(sheet.as_mut_slice())?;
+    let checked = opened.take();
+    let both = time(rt, rounds, || {
+        repack(
+            &checked,
+            &mut [NO_ENTRY],
+            rows.as_mut_slice(),
+            output.as_mut_slice(),
+        )
+        .map(|_| ())
+    })?;
     eprintln!(rt; "{total} instructions: {check} ns a check, {both} ns to unpack and pack")?;
     println!(rt; "{total} instructions: accepted, unpacked and packed")?;
     Ok(())
 }
 
 fn main(rt: HostRuntime) -> anyhow::Result<()> {
-    let mut args = env::args(&rt)?;
-    let _ = args.next();
-    let rounds = match args.next() {
+    let rounds = match env::args(&rt)?.nth(1) {
         Some(text) => text.as_str().parse::<u32>()?,
         None => 1,
     };
-    if rounds == 0 {
-        return Err(anyhow!("0 rounds tell nothing"));
-    }
+    ensure!(rounds != 0, "0 rounds tell nothing");
     for times in [127, 255, 511, 1023] {
-        measure(&rt, times, rounds)?;
+        measure(&rt, rt.alloc(), times, rounds)?;
     }
     Ok(())
 }
