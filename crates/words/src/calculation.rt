@@ -27,8 +27,8 @@ pub fn calculate(operation: Operation, b: u32, c: u32) -> u32
         Operation::And => b & c,
         Operation::Or => b | c,
         Operation::Xor => b ^ c,
-        Operation::Sl => if c < 32 { b << c } else { 0 },
-        Operation::Srl => if c < 32 { b >> c } else { 0 },
+        Operation::Sl => b.checked_shl(c).unwrap_or(0),
+        Operation::Srl => b.checked_shr(c).unwrap_or(0),
         Operation::Sra => shift_signed(b, c),
     }
 }
