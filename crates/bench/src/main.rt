@@ -22,10 +22,7 @@ fn examine(bytes: &[u8], sheet: &mut [ShapeRow]) -> Result<Counts, Refusal>
     ensures verdict { told result ≡ examined bytes.now (length sheet.old) }
     ensures sheet { sheet.new ≡ sheet_after bytes.now sheet.old }
 {
-    let opened = open(bytes)?;
-    opened.check(sheet)?;
-    let checked = opened.take();
-    Ok(checked.counts())
+    Ok(open(bytes)?.into_checked(sheet)?.counts())
 }
 
 // What bench says of a module.

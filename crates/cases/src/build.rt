@@ -1,11 +1,11 @@
 //! Modules put together for tests.
 
-use isa::encode::encode;
 use isa::instr::Instr;
+use isa::row::Row;
 use std::alloc::{AllocError, Global};
 
 /// The module of the documents: it orders 1200, lets the host advance once and reads the speed.
-pub const RAMP: [u8; 60] = [
+pub(crate) const RAMP: [u8; 60] = [
     0x01, 0x00, 0x00, 0x00, // one routine, no image
     0x0C, 0x00, 0x00, 0x00, 0x06, 0x00, 0x00, 0x00, // at byte 12, six instructions
     0x00, 0x00, 0x00, 0x00, 0x00, 0x00, 0x00, 0x00, // NEW
@@ -16,66 +16,65 @@ pub const RAMP: [u8; 60] = [
     0x17, 0x00, 0x00, 0x00, 0x00, 0x00, 0x00, 0x00, // RET 0
 ];
 
-fn push_two(bytes: &mut Vec<u8>, number: usize) -> Result<(), AllocError> {
-    bytes.push((number % 256) as u8)?;
-    bytes.push((number / 256 % 256) as u8)?;
-    Ok(())
-}
-
-fn push_entry(
-    bytes: &mut Vec<u8>,
-    offset: usize,
-    count: usize,
+// A routine, by its instructions and by what it takes and gives.
+struct Routine<'a> {
+    instrs: &'a [Instr],
     arguments: u8,
     results: u8,
-) -> Result<(), AllocError> {
-    push_two(bytes, offset)?;
-    push_two(bytes, offset / 65536)?;
-    push_two(bytes, count)?;
-    bytes.push(arguments)?;
-    bytes.push(results)?;
-    Ok(())
 }
 
-fn push_rows(bytes: &mut Vec<u8>, rows: &[Instr]) -> Result<(), AllocError> {
-    for instr in rows {
-        let row = encode(*instr);
-        bytes.extend_from_slice(&[row.op, row.a, row.b, row.c])?;
-        bytes.extend_from_slice(&row.n.to_le_bytes())?;
-    }
-    Ok(())
+fn push_instr(bytes: &mut Vec<u8>, instr: Instr) -> Result<(), AllocError> {
+    let Row { op, a, b, c, n } = instr.into();
+    bytes.extend_from_slice(&[op, a, b, c])?;
+    bytes.extend_from_slice(&n.to_le_bytes())
 }
 
-/// A module of one routine.
-pub fn single(heap: Global, rows: &[Instr]) -> Result<Vec<u8>, AllocError> {
+// A module of these routines and no image.
+fn module_of(heap: Global, routines: &[Routine]) -> Result<Vec<u8>, AllocError> {
     let mut bytes = Vec::new(heap);
-    push_two(&mut bytes, 1)?;
-    push_two(&mut bytes, 0)?;
-    push_entry(&mut bytes, 12, rows.len(), 0, 0)?;
-    push_rows(&mut bytes, rows)?;
+    bytes.extend_from_slice(&routines.len().to_le_bytes()[0..2])?;
+    bytes.extend_from_slice(&[0, 0])?;
+    let mut offset = routines.len().saturating_mul(8).saturating_add(4);
+    for routine in routines {
+        let count = routine.instrs.len();
+        bytes.extend_from_slice(&offset.to_le_bytes()[0..4])?;
+        bytes.extend_from_slice(&count.to_le_bytes()[0..2])?;
+        bytes.extend_from_slice(&[routine.arguments, routine.results])?;
+        offset = count.saturating_mul(8).saturating_add(offset);
+    }
+    for routine in routines {
+        for instr in routine.instrs {
+            push_instr(&mut bytes, *instr)?;
+        }
+    }
     Ok(bytes)
 }
 
+fn main_routine(instrs: &[Instr]) -> Routine<'_> {
+    Routine {
+        instrs,
+        arguments: 0,
+        results: 0,
+    }
+}
+
+/// A module of one routine.
+pub(crate) fn single(heap: Global, rows: &[Instr]) -> Result<Vec<u8>, AllocError> {
+    module_of(heap, &[main_routine(rows)])
+}
+
 /// A module of two routines, where the second takes and gives something.
-pub fn pair(
+pub(crate) fn pair(
     heap: Global,
     main: &[Instr],
     second: &[Instr],
     arguments: u8,
     results: u8,
 ) -> Result<Vec<u8>, AllocError> {
-    let mut bytes = Vec::new(heap);
-    push_two(&mut bytes, 2)?;
-    push_two(&mut bytes, 0)?;
-    push_entry(&mut bytes, 20, main.len(), 0, 0)?;
-    push_entry(
-        &mut bytes,
-        main.len().saturating_mul(8).saturating_add(20),
-        second.len(),
+    let second = Routine {
+        instrs: second,
         arguments,
         results,
-    )?;
-    push_rows(&mut bytes, main)?;
-    push_rows(&mut bytes, second)?;
-    Ok(bytes)
+    };
+    module_of(heap, &[main_routine(main), second])
 }

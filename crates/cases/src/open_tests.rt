@@ -1,4 +1,4 @@
-use crate::answers::{ACCEPTED, verdict};
+use crate::answers::{Refused, verdict};
 use crate::build::{RAMP, pair};
 use isa::instr::Instr;
 use module::open::open;
@@ -9,10 +9,10 @@ use std::test::Fail;
 fn the_ramp_is_accepted_at_its_own_length_only(rt: HostRuntime) -> Result<(), Fail> {
     let mut longer = RAMP.to_vec(rt.alloc())?;
     assert_eq!(rt; longer.len(), 60);
-    assert_eq!(rt; verdict(&RAMP), ACCEPTED);
-    assert_eq!(rt; verdict(&RAMP[0..59]), (4, 1, 0, 0));
+    assert_eq!(rt; verdict(&RAMP), Ok(()));
+    assert_eq!(rt; verdict(&RAMP[0..59]), Err(Refused(4, 1, 0, 0)));
     longer.push(0)?;
-    assert_eq!(rt; verdict(longer.as_slice()), (4, 1, 0, 0));
+    assert_eq!(rt; verdict(longer.as_slice()), Err(Refused(4, 1, 0, 0)));
     Ok(())
 }
 
@@ -31,53 +31,53 @@ fn an_opened_module_shows_the_bytes_and_counts(rt: HostRuntime) -> Result<(), Fa
 
 #[test]
 fn too_few_bytes_for_the_contents(rt: HostRuntime) {
-    assert_eq!(rt; verdict(&[]), (1, 1, 0, 0));
-    assert_eq!(rt; verdict(&[1, 0, 0]), (1, 1, 0, 0));
-    assert_eq!(rt; verdict(&[64, 0, 0, 0]), (1, 1, 0, 0));
-    assert_eq!(rt; verdict(&RAMP[0..11]), (1, 1, 0, 0));
+    assert_eq!(rt; verdict(&[]), Err(Refused(1, 1, 0, 0)));
+    assert_eq!(rt; verdict(&[1, 0, 0]), Err(Refused(1, 1, 0, 0)));
+    assert_eq!(rt; verdict(&[64, 0, 0, 0]), Err(Refused(1, 1, 0, 0)));
+    assert_eq!(rt; verdict(&RAMP[0..11]), Err(Refused(1, 1, 0, 0)));
 }
 
 #[test]
 fn counts_out_of_range(rt: HostRuntime) {
-    assert_eq!(rt; verdict(&[0, 0, 0, 0]), (2, 1, 0, 0));
-    assert_eq!(rt; verdict(&[65, 0, 0, 0]), (2, 1, 0, 0));
-    assert_eq!(rt; verdict(&[1, 0, 1, 16]), (2, 1, 0, 0));
-    assert_eq!(rt; verdict(&[1, 0, 0, 16]), (1, 1, 0, 0));
+    assert_eq!(rt; verdict(&[0, 0, 0, 0]), Err(Refused(2, 1, 0, 0)));
+    assert_eq!(rt; verdict(&[65, 0, 0, 0]), Err(Refused(2, 1, 0, 0)));
+    assert_eq!(rt; verdict(&[1, 0, 1, 16]), Err(Refused(2, 1, 0, 0)));
+    assert_eq!(rt; verdict(&[1, 0, 0, 16]), Err(Refused(1, 1, 0, 0)));
 }
 
 #[test]
 fn wrong_entries_name_their_routine(rt: HostRuntime) -> Result<(), Fail> {
     let ret = [Instr::Ret { a: 0 }];
     let heap = rt.alloc();
-    assert_eq!(rt; verdict(pair(heap, &ret, &ret, 0, 0)?.as_slice()), ACCEPTED);
+    assert_eq!(rt; verdict(pair(heap, &ret, &ret, 0, 0)?.as_slice()), Ok(()));
     assert_eq!(rt;
         verdict(pair(heap, &ret, &[], 0, 0)?.as_slice()),
-        (3, 1, 1, 0)
+        Err(Refused(3, 1, 1, 0))
     );
     assert_eq!(rt;
         verdict(pair(heap, &ret, &ret, 33, 0)?.as_slice()),
-        (3, 1, 1, 0)
+        Err(Refused(3, 1, 1, 0))
     );
     assert_eq!(rt;
         verdict(pair(heap, &ret, &ret, 0, 9)?.as_slice()),
-        (3, 1, 1, 0)
+        Err(Refused(3, 1, 1, 0))
     );
     let mut shifted = pair(heap, &ret, &ret, 0, 0)?;
     assert!(rt; shifted.len() == 36);
     shifted[12] = 29;
-    assert_eq!(rt; verdict(shifted.as_slice()), (3, 1, 1, 0));
+    assert_eq!(rt; verdict(shifted.as_slice()), Err(Refused(3, 1, 1, 0)));
     Ok(())
 }
 
 #[test]
 fn a_hundred_thousand_bytes(rt: HostRuntime) -> Result<(), Fail> {
     let zeros = vec![in rt.alloc(); 0; 100_000]?;
-    assert_eq!(rt; verdict(zeros.as_slice()), (2, 1, 0, 0));
+    assert_eq!(rt; verdict(zeros.as_slice()), Err(Refused(2, 1, 0, 0)));
     let mut long = RAMP.to_vec(rt.alloc())?;
     long.extend_from_slice(zeros.as_slice())?;
-    assert_eq!(rt; verdict(long.as_slice()), (4, 1, 0, 0));
+    assert_eq!(rt; verdict(long.as_slice()), Err(Refused(4, 1, 0, 0)));
     let ones = vec![in rt.alloc(); 255; 100_000]?;
-    assert_eq!(rt; verdict(ones.as_slice()), (2, 1, 0, 0));
+    assert_eq!(rt; verdict(ones.as_slice()), Err(Refused(2, 1, 0, 0)));
     Ok(())
 }
 

@@ -107,8 +107,7 @@ fn measure(
     let opened = open(bytes.as_slice())?;
     let total = opened.counts().total;
     let check = time(rt, rounds, || opened.check(sheet.as_mut_slice()))?;
-    opened.check(sheet.as_mut_slice())?;
-    let checked = opened.take();
+    let checked = opened.into_checked(sheet.as_mut_slice())?;
     let both = time(rt, rounds, || {
         repack(
             &checked,
