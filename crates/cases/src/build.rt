@@ -17,6 +17,7 @@ pub(crate) const RAMP: [u8; 60] = [
 ];
 
 // A routine, by its instructions and by what it takes and gives.
+#[derive(Clone, Copy)]
 struct Routine<'a> {
     instrs: &'a [Instr],
     arguments: u8,
