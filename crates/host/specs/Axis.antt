@@ -41,5 +41,5 @@ pub record OrderedTo120 (ports : List Port) : Type 0 where
   pub two : ticked 2 axis_rule (written ports 0 120) ≡ ports_with 120 50 100 150
   pub three : ticked 3 axis_rule (written ports 0 120) ≡ ports_with 120 50 120 270
 
-pub axis_lawful : Lawful axis_ports (λ _. axis_rule)
+pub axis_lawful : Lawful {Base = Unit {0}} axis_ports (λ _. axis_rule)
 axis_lawful = record { few = λ _. lit≤ tt; senses = λ _ ports. sensing_senses ports (motion ports) }

@@ -12,9 +12,9 @@ pub record Sensed (p q : Port) : Type 0 where
   pub orders : p.flag ≡ Order → q.value ≡ p.value
 
 -- no more ports than the most, and a rule that changes only values of sense ports
-pub record Lawful {Self : Type 0} (ports : Self → List Port) (rule : Self → List Port → List Port) : Type 0 where
+pub record Lawful {Self Base : Type 0} (ports : Self → List Port) (rule : Base → List Port → List Port) : Type 0 where
   pub few : (host : Self) → length (ports host) ≤ most_ports
-  pub senses : (host : Self) (ps : List Port) → AllZip Sensed ps (rule host ps)
+  pub senses : (base : Base) (ps : List Port) → AllZip Sensed ps (rule base ps)
 
 -- the ports ps, with the values of the sense ports as qs has them: a rule in this form has the law
 abbrev pub sensing : List Port → List Port → List Port

@@ -60,8 +60,6 @@ impl Host for AxisHost {
 
     ghost base = { λ _. tt };
 
-    ghost lawful = { axis_lawful };
-
     fn read(&self, p: usize) -> Result<u32, HostRefusal> {
         match p {
             0 => Ok(self.ordered),
@@ -103,4 +101,6 @@ impl Host for AxisHost {
         self.ordered = 0;
         self.ramp = RESTING_RAMP;
     }
+
+    ghost lawful = { axis_lawful };
 }

@@ -16,20 +16,20 @@ pub mod response;
 pub mod table;
 
 /// Anything that has ports and a tick rule, and keeps to them.
+///
+/// A host is its ports, which a call may change, and its base, which none does. The tick rule is a function of the base: so
+/// no call changes the rule either, and no clause has to say it.
 pub trait Host {
-    // The ports, port 0 first.
-    ghost ports: { Self → List Port };
-
-    // The tick rule: what a tick makes of the ports.
-    ghost rule: { Self → List Port → List Port };
-
-    // Whatever else there is of the host, which no call changes.
+    // Whatever there is of the host that no call changes.
     ghost Base: { Type 0 };
 
     ghost base: { Self → Base };
 
-    // What each host proves: it has at most 256 ports, and its rule changes only values of sense ports.
-    ghost lawful: { Lawful ports rule };
+    // The ports, port 0 first.
+    ghost ports: { Self → List Port };
+
+    // The tick rule of a host with this base: what a tick makes of the ports.
+    ghost rule: { Base → List Port → List Port };
 
     /// The value of port p, or refusal 4. A read changes nothing: the host is not lent for writing.
     fn read(&self, p: usize) -> Result<u32, HostRefusal>
@@ -39,18 +39,18 @@ pub trait Host {
     fn write(&mut self, p: usize, v: u32) -> Result<(), HostRefusal>
         ensures answer { told result ≡ writing (ports self.old) p v }
         ensures ports { ports self.new ≡ written (ports self.old) p v }
-        ensures rule { rule self.new ≡ rule self.old }
         ensures base { base self.new ≡ base self.old };
 
     /// Advances once, by the tick rule.
     fn tick(&mut self)
-        ensures ports { ports self.new ≡ rule self.old (ports self.old) }
-        ensures rule { rule self.new ≡ rule self.old }
+        ensures ports { ports self.new ≡ rule (base self.old) (ports self.old) }
         ensures base { base self.new ≡ base self.old };
 
     /// Gives each port that has a rest value that value.
     fn rest(&mut self)
         ensures ports { ports self.new ≡ rested (ports self.old) }
-        ensures rule { rule self.new ≡ rule self.old }
         ensures base { base self.new ≡ base self.old };
+
+    // What each host proves: it has at most 256 ports, and its rule changes only values of sense ports.
+    ghost lawful: { Lawful ports rule };
 }

@@ -13,9 +13,8 @@ use crate::table::TableHost;
 
 /// Lets a host advance so many times. Only values of sense ports change.
 pub fn advance<H: Host>(host: &mut H, ticks: u32)
-    ensures ports { H.ports host.new ≡ ticked ticks (H.rule host.old) (H.ports host.old) }
+    ensures ports { H.ports host.new ≡ ticked ticks (H.rule (H.base host.old)) (H.ports host.old) }
     ensures senses { AllZip Sensed (H.ports host.old) (H.ports host.new) }
-    ensures rule { H.rule host.new ≡ H.rule host.old }
     ensures base { H.base host.new ≡ H.base host.old }
 {
     for _tick in 0..ticks {
@@ -32,9 +31,8 @@ pub fn respond<H: Host>(
     ticks: u32,
     shown: usize,
 ) -> Result<u32, HostRefusal>
-    ensures answer { told result ≡ responding (H.rule host.old) (H.ports host.old) p v ticks shown }
-    ensures ports { H.ports host.new ≡ responded (H.rule host.old) (H.ports host.old) p v ticks shown }
-    ensures rule { H.rule host.new ≡ H.rule host.old }
+    ensures answer { told result ≡ responding (H.rule (H.base host.old)) (H.ports host.old) p v ticks shown }
+    ensures ports { H.ports host.new ≡ responded (H.rule (H.base host.old)) (H.ports host.old) p v ticks shown }
     ensures base { H.base host.new ≡ H.base host.old }
 {
     host.read(shown)?;

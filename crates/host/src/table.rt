@@ -39,8 +39,6 @@ impl<'a> Host for TableHost<'a> {
 
     ghost base = { table_base };
 
-    ghost lawful = { table_lawful };
-
     fn read(&self, p: usize) -> Result<u32, HostRefusal> {
         if p >= self.count() {
             return Err(HostRefusal::NoPort);
@@ -62,4 +60,6 @@ impl<'a> Host for TableHost<'a> {
             self.rows[p].rest();
         }
     }
+
+    ghost lawful = { table_lawful };
 }

@@ -5,6 +5,7 @@ use Rattle.host.proofs.response.advance.Given as goal
 abbrev pub invariant-loop-tick : goal.invariant-loop-tick
 invariant-loop-tick g l =
     let m = g.H.Host in
-    (m.ports l.host ≡ ticked l._tick (m.rule l.initial.host) (m.ports l.initial.host))
-    × (m.rule l.host ≡ m.rule l.initial.host)
-    × (m.base l.host ≡ m.base l.initial.host)
+    record {
+      ports : m.ports l.host ≡ ticked l._tick (m.rule (m.base l.initial.host)) (m.ports l.initial.host);
+      base : m.base l.host ≡ m.base l.initial.host;
+    }

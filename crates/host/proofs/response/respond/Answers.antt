@@ -18,9 +18,8 @@ returns-in_err-write g c =
     let r = err_from_is_err_and c.from_residual-in_err-write.result c.from_residual-in_err-write.ensures.1 in
     let said : c.from_residual-in_err-write.result ≡ Err e = cc (r.1, r.2) in
     record {
-      answer = ap told said ∙ answer_refused (m.rule host) (m.ports host) a.p a.v a.ticks a.shown _ found (values_of e) refused;
-      ports = w.ports ∙ ports_refused (m.rule host) (m.ports host) a.p a.v a.ticks a.shown _ found (values_of e) refused;
-      rule = w.rule;
+      answer = ap told said ∙ answer_refused (m.rule (m.base host)) (m.ports host) a.p a.v a.ticks a.shown _ found (values_of e) refused;
+      ports = w.ports ∙ ports_refused (m.rule (m.base host)) (m.ports host) a.p a.v a.ticks a.shown _ found (values_of e) refused;
       base = w.base;
     }
 
@@ -33,14 +32,13 @@ returns g c =
     let t = c.advance.ensures in
     let found : Ok c.in_ok-read.field-0 ≡ reading (m.ports host) a.shown = c.in_ok-read.ensures.answer in
     let taken : Ok tt ≡ writing (m.ports host) a.p a.v = c.in_ok-write.ensures.answer in
-    let after : m.ports c.advance.new.host ≡ ticked a.ticks (m.rule host) (written (m.ports host) a.p a.v) =
-    t.ports ∙ (λ i. ticked a.ticks (w.rule i) (w.ports i)) in
+    let after : m.ports c.advance.new.host ≡ ticked a.ticks (m.rule (m.base host)) (written (m.ports host) a.p a.v) =
+    t.ports ∙ (λ i. ticked a.ticks (m.rule (w.base i)) (w.ports i)) in
     record {
       answer =
           c.read-2.ensures.answer
           ∙ ap (λ ps. reading ps a.shown) after
-          ∙ answer_read (m.rule host) (m.ports host) a.p a.v a.ticks a.shown _ found (m.lawful.senses host) taken;
-      ports = after ∙ ports_read (m.rule host) (m.ports host) a.p a.v a.ticks a.shown _ found (m.lawful.senses host) taken;
-      rule = t.rule ∙ w.rule;
+          ∙ answer_read (m.rule (m.base host)) (m.ports host) a.p a.v a.ticks a.shown _ found (g.met.H.Host.lawful.senses (m.base host)) taken;
+      ports = after ∙ ports_read (m.rule (m.base host)) (m.ports host) a.p a.v a.ticks a.shown _ found (g.met.H.Host.lawful.senses (m.base host)) taken;
       base = t.base ∙ w.base;
     }

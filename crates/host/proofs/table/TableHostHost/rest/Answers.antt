@@ -31,6 +31,5 @@ returns c =
     let past : drop most_ports c.loop-p.self.rows.now ≡ drop most_ports rows = ap (drop most_ports) after ∙ swept_back at_rest most_ports rows in
     record {
       ports = ap (take most_ports) after ∙ swept_front at_rest most_ports rows;
-      rule = refl;
       base = λ i. (c.loop-p.invariant.0 i, past i);
     }

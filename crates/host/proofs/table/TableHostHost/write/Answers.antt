@@ -8,7 +8,7 @@ pub returns-then-p-count : goal.returns-then-p-count
 returns-then-p-count c =
     let rows = c.args.self.now.rows.now in
     let h : length (take most_ports rows) ≤ c.args.p = omega arith in
-    record { answer = sym (write_past _ _ h _); ports = sym (written_past (take most_ports rows) _ h _); rule = refl; base = refl }
+    record { answer = sym (write_past _ _ h _); ports = sym (written_past (take most_ports rows) _ h _); base = refl }
 
 pub offset_bounds-self-p : goal.offset_bounds-self-p
 offset_bounds-self-p c = let h = simp length-take at c.count.ensures in omega arith
@@ -26,6 +26,5 @@ returns c =
     record {
       answer = answer ∙ sym (front_write most_ports rows p h c.args.v);
       ports = ap (λ row. take most_ports (set rows p row)) port ∙ front_written most_ports rows p h c.args.v;
-      rule = refl;
       base = ap (λ past. (c.args.self.now.rows.ghost_name, past)) (drop-set-lt most_ports rows p _ (inside most_ports rows p h));
     }
