@@ -6,6 +6,13 @@ use Rattle.host.specs.declared.port.Port.{Port}
 use Rattle.host.specs.Ports.{value_at}
 use Rattle.host.specs.Lawful.{Lawful, sensing, sensing_senses}
 use Rattle.counter.specs.declared.CounterHost.{CounterHost}
+use Rattle.counter.specs.declared.CounterPort.{CounterPort}
+use Rattle.counter.specs.declared.CounterPort.TheVariants.{Pace, Count}
+
+-- the numbers of its ports
+abbrev pub port_number : CounterPort → ℕ
+port_number Pace = 0
+port_number Count = 1
 
 -- the ports of a counter with this pace and this count
 abbrev pub ports_with : ℕ → ℕ → List Port
@@ -25,5 +32,5 @@ counted ports = ports_with (value_at ports 0) ((value_at ports 1 + value_at port
 abbrev pub counter_rule : List Port → List Port
 counter_rule ports = sensing ports (counted ports)
 
-pub counter_lawful : Lawful counter_ports (λ _. counter_rule)
+pub counter_lawful : Lawful {Base = Unit {0}} counter_ports (λ _. counter_rule)
 counter_lawful = record { few = λ _. lit≤ tt; senses = λ _ ports. sensing_senses ports (counted ports) }

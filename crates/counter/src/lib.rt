@@ -3,7 +3,8 @@
 #![tactic(auto)]
 
 ghost use Rattle.std.specs.Prelude.{◌≡◌};
-ghost use Rattle.counter.specs.Counter.{counter_ports, ports_with, counter_rule, counter_lawful};
+ghost use Rattle.host.specs.Ports.{NamesPort};
+ghost use Rattle.counter.specs.Counter.{port_number, counter_ports, ports_with, counter_rule, counter_lawful};
 
 use host::Host;
 use host::port::HostRefusal;
@@ -11,6 +12,27 @@ use host::port::HostRefusal;
 const QUICKEST: u32 = 100;
 
 const RESTING: u32 = 1;
+
+// The ports of a counter, port 0 first.
+#[derive(Clone, Copy, PartialEq, Eq, Debug)]
+enum CounterPort {
+    Pace,
+    Count,
+}
+
+impl TryFrom<usize> for CounterPort {
+    type Error = HostRefusal;
+
+    ghost try_from_gives = { NamesPort port_number 2 };
+
+    fn try_from(p: usize) -> Result<CounterPort, HostRefusal> {
+        match p {
+            0 => Ok(CounterPort::Pace),
+            1 => Ok(CounterPort::Count),
+            _ => Err(HostRefusal::NoPort),
+        }
+    }
+}
 
 /// Counts the parcels that pass.
 #[derive(Drop)]
@@ -34,35 +56,29 @@ impl CounterHost {
 }
 
 impl Host for CounterHost {
-    ghost ports = { counter_ports };
-
-    ghost rule = { λ _. counter_rule };
-
     ghost Base = { Unit {0} };
 
     ghost base = { λ _. tt };
 
-    ghost lawful = { counter_lawful };
+    ghost ports = { counter_ports };
+
+    ghost rule = { λ _. counter_rule };
 
     fn read(&self, p: usize) -> Result<u32, HostRefusal> {
-        match p {
-            0 => Ok(self.pace),
-            1 => Ok(self.count),
-            _ => Err(HostRefusal::NoPort),
+        match CounterPort::try_from(p)? {
+            CounterPort::Pace => Ok(self.pace),
+            CounterPort::Count => Ok(self.count),
         }
     }
 
     fn write(&mut self, p: usize, v: u32) -> Result<(), HostRefusal> {
-        match p {
-            0 => {
-                if v > QUICKEST {
-                    return Err(HostRefusal::OutOfLimits);
-                }
+        match CounterPort::try_from(p)? {
+            CounterPort::Pace if v <= QUICKEST => {
                 self.pace = v;
                 Ok(())
             }
-            1 => Err(HostRefusal::SensePort),
-            _ => Err(HostRefusal::NoPort),
+            CounterPort::Pace => Err(HostRefusal::OutOfLimits),
+            CounterPort::Count => Err(HostRefusal::SensePort),
         }
     }
 
@@ -73,4 +89,6 @@ impl Host for CounterHost {
     fn rest(&mut self) {
         self.pace = RESTING;
     }
+
+    ghost lawful = { counter_lawful };
 }

@@ -1,17 +1,14 @@
 -- Reads and writes of the ports that are the first n of some rows.
-use Rattle.std.proofs.Common.{◌≡◌, ℕ, ◌<◌, ◌≤◌, ltb, List, length, get_or, take, set, Ok, Err, sym, ap, ◌∙◌, arith, length-take, get_or-take}
+use Rattle.std.proofs.Common.{◌≡◌, ℕ, ◌<◌, ◌≤◌, ltb, List, length, get_or, take, set, Err, sym, ap, ◌∙◌, arith, length-take, get_or-take}
 use lib.Seq.{take-set-lt}
 use Rattle.std.proofs.lemmas.List.{set_past}
 use Rattle.std.proofs.lemmas.Bool.{cond-true, cond-false, lt-ltb, le-ltb}
 use Rattle.host.specs.declared.port.Port.{Port}
 use Rattle.host.specs.Refusals.{by_host}
-use Rattle.host.specs.Ports.{blank, reading, ordering, ordered, writing, written}
+use Rattle.host.specs.Ports.{blank, ordering, ordered, writing, written}
 
 -- past the last port
 module _ (ports : List Port) (p : ℕ) (h : length ports ≤ p) where
-  pub read_past : reading ports p ≡ Err (by_host 4)
-  read_past = cond-false (ltb p (length ports)) _ _ (le-ltb p (length ports) h)
-
   pub write_past : (v : ℕ) → writing ports p v ≡ Err (by_host 4)
   write_past v = cond-false (ltb p (length ports)) _ _ (le-ltb p (length ports) h)
 
@@ -27,9 +24,6 @@ module _ (n : ℕ) (rows : List Port) (p : ℕ) (h : p < length (take n rows)) w
 
   same : get_or (take n rows) p blank ≡ get_or rows p blank
   same = get_or-take n rows p blank inside
-
-  pub front_read : reading (take n rows) p ≡ Ok (get_or rows p blank).value
-  front_read = cond-true (ltb p (length (take n rows))) _ _ (lt-ltb p (length (take n rows)) h) ∙ ap (λ port. Ok port.value) same
 
   module _ (v : ℕ) where
     pub front_write : writing (take n rows) p v ≡ ordering (get_or rows p blank) v

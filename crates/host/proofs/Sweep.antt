@@ -1,45 +1,35 @@
--- A loop that changes each of the first elements of a list by f, in place.
-use Rattle.std.proofs.Common.{◌≡◌, ℕ, zero, suc, ◌+◌, ◌<◌, List, [], ◌∷◌, ◌++◌, map, length, get_or, take, drop, set, sym, refl, ap, ◌∙◌, add-one, arith, take-append-drop}
+-- A list whose first n elements are changed in place, and the others kept.
+use Rattle.std.proofs.Common.{◌≡◌, ℕ, zero, suc, min, ◌≤◌, List, [], ◌∷◌, ◌++◌, map, length, take, drop, sym, refl, ap, ◌∙◌, take-append-drop}
+use Rattle.std.proofs.lemmas.List.{take_all, drop_all, append-nil, take_min, drop_min}
 
 module _ {X : Type 0} (f : X → X) where
-  -- the list with its first i elements changed
-  abbrev pub swept : ℕ → List X → List X
-  swept i xs = map f (take i xs) ++ drop i xs
+  take-swept : (n : ℕ) (xs : List X) → take n (map f (take n xs) ++ drop n xs) ≡ map f (take n xs)
+  take-swept zero xs = refl
+  take-swept (suc n) [] = refl
+  take-swept (suc n) (x ∷ xs) = ap (λ ys. f x ∷ ys) (take-swept n xs)
 
-  swept-nil : (i : ℕ) → swept i [] ≡ []
-  swept-nil zero = refl
-  swept-nil (suc i) = refl
+  drop-swept : (n : ℕ) (xs : List X) → drop n (map f (take n xs) ++ drop n xs) ≡ drop n xs
+  drop-swept zero xs = refl
+  drop-swept (suc n) [] = refl
+  drop-swept (suc n) (x ∷ xs) = drop-swept n xs
 
-  pub length-swept : (i : ℕ) (xs : List X) → length (swept i xs) ≡ length xs
-  length-swept zero xs = refl
-  length-swept (suc i) [] = refl
-  length-swept (suc i) (x ∷ xs) = cc (length-swept i xs)
+  -- after a loop over the first n elements, or over all where there are fewer
+  module _ (n count i : ℕ) (xs ys : List X) (is : count ≡ min n (length xs)) (all : length (take count xs) ≤ i)
+      (done : ys ≡ map f (take i (take count xs)) ++ drop i (take count xs)) where
+    swept : ys ++ drop count xs ≡ map f (take n xs) ++ drop n xs
+    swept =
+        let whole = take_all i (take count xs) all in
+        let none = drop_all i (take count xs) all in
+        let nil = append-nil (map f (take count xs)) in
+        let front : take count xs ≡ take n xs = ap (λ k. take k xs) is ∙ take_min n xs in
+        let back : drop count xs ≡ drop n xs = ap (λ k. drop k xs) is ∙ drop_min n xs in
+        cc
 
-  -- element i is not changed yet
-  pub swept_read : (d : X) (i : ℕ) (xs : List X) → get_or (swept i xs) i d ≡ get_or xs i d
-  swept_read d i [] = ap (λ ys. get_or ys i d) (swept-nil i)
-  swept_read d zero (x ∷ xs) = refl
-  swept_read d (suc i) (x ∷ xs) = swept_read d i xs
+    pub swept_front : take n (ys ++ drop count xs) ≡ map f (take n xs)
+    swept_front = ap (take n) swept ∙ take-swept n xs
 
-  more : (d : X) (i : ℕ) (xs : List X) → i < length xs → set (swept i xs) i (f (get_or xs i d)) ≡ swept (suc i) xs
-  more d i [] h = absurd (omega arith)
-  more d zero (x ∷ xs) h = refl
-  more d (suc i) (x ∷ xs) h = ap (λ ys. f x ∷ ys) (more d i xs (omega arith))
-
-  -- one turn of the loop
-  pub swept_more : (d : X) (i : ℕ) (xs : List X) → i < length xs → set (swept i xs) i (f (get_or xs i d)) ≡ swept (i + 1) xs
-  swept_more d i xs h = more d i xs h ∙ ap (λ j. swept j xs) (sym (add-one i))
-
-  -- after as many turns as the first n elements are
-  pub swept_front : (n : ℕ) (xs : List X) → take n (swept (length (take n xs)) xs) ≡ map f (take n xs)
-  swept_front zero xs = refl
-  swept_front (suc n) [] = refl
-  swept_front (suc n) (x ∷ xs) = ap (λ ys. f x ∷ ys) (swept_front n xs)
-
-  pub swept_back : (n : ℕ) (xs : List X) → drop n (swept (length (take n xs)) xs) ≡ drop n xs
-  swept_back zero xs = refl
-  swept_back (suc n) [] = refl
-  swept_back (suc n) (x ∷ xs) = swept_back n xs
+    pub swept_back : drop n (ys ++ drop count xs) ≡ drop n xs
+    swept_back = ap (drop n) swept ∙ drop-swept n xs
 
 -- a list, from its first n elements and the others
 pub rejoin : {X : Type 0} {front back : List X} (n : ℕ) (xs : List X) → take n xs ≡ front → drop n xs ≡ back → xs ≡ front ++ back

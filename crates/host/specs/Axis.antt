@@ -4,9 +4,18 @@ use Rattle.std.proofs.Common.{lit≤}
 use Rattle.host.specs.declared.port.Flag.TheVariants.{Order, Sense}
 use Rattle.host.specs.declared.port.Port.{Port}
 use Rattle.host.specs.declared.axis.AxisHost.{AxisHost}
+use Rattle.host.specs.declared.axis.AxisPort.{AxisPort}
+use Rattle.host.specs.declared.axis.AxisPort.TheVariants.{Ordered, Ramp, Speed, Position}
 use Rattle.host.specs.Ports.{value_at, written}
 use Rattle.host.specs.Response.{ticked}
 use Rattle.host.specs.Lawful.{Lawful, sensing, sensing_senses}
+
+-- the numbers of its ports
+abbrev pub port_number : AxisPort → ℕ
+port_number Ordered = 0
+port_number Ramp = 1
+port_number Speed = 2
+port_number Position = 3
 
 -- the ports of an axis with these values: ordered speed, ramp, speed and position
 abbrev pub ports_with : ℕ → ℕ → ℕ → ℕ → List Port

@@ -16,6 +16,10 @@ pub record Lawful {Self Base : Type 0} (ports : Self → List Port) (rule : Base
   pub few : (host : Self) → length (ports host) ≤ most_ports
   pub senses : (base : Base) (ps : List Port) → AllZip Sensed ps (rule base ps)
 
+-- a call that keeps the base keeps the rule
+pub rule_kept : {Base : Type 0} (rule : Base → List Port → List Port) {old new : Base} → new ≡ old → rule new ≡ rule old
+rule_kept rule same = ap rule same
+
 -- the ports ps, with the values of the sense ports as qs has them: a rule in this form has the law
 abbrev pub sensing : List Port → List Port → List Port
 sensing [] qs = []

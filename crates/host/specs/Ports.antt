@@ -1,9 +1,11 @@
 -- Ports, and what a read, a write and a rest make of them.
-use Rattle.std.specs.Prelude.{ℕ, Bool, cond, ◌&&◌, List, map, length, Some, None, Ok, Err, Option, Result, nat_le, nat_lt, slice_index_or, slice_set}
+use Rattle.std.specs.Prelude.{◌≡◌, ◌≤◌, ℕ, Bool, cond, ◌&&◌, List, map, length, Some, None, Ok, Err, Option, Result, MatchResult, nat_le, nat_lt, slice_index_or, slice_set}
 use Rattle.refusal.specs.Values.{Values}
 use Rattle.host.specs.declared.port.Flag.{Flag}
 use Rattle.host.specs.declared.port.Flag.TheVariants.{Order, Sense}
 use Rattle.host.specs.declared.port.Port.{Port}
+use Rattle.host.specs.declared.port.HostRefusal.{HostRefusal}
+use Rattle.host.specs.declared.port.HostRefusal.TheVariants.{NoPort}
 use Rattle.host.specs.Refusals.{by_host}
 
 -- the most ports that a host has
@@ -29,6 +31,10 @@ if_ok (Err e) x y = y
 
 abbrev pub value_at : List Port → ℕ → ℕ
 value_at ports p = (slice_index_or ports p blank).value
+
+-- of `count` ports that have names, the one with the number p, or a refusal where there is none
+abbrev pub NamesPort : {Name : Type 0} → (Name → ℕ) → ℕ → ℕ → Result Name HostRefusal → Type 0
+NamesPort number_of count p answer = MatchResult answer (λ name. number_of name ≡ p) (λ e. (e ≡ NoPort) × (count ≤ p))
 
 -- what a read of port p answers
 abbrev pub reading : List Port → ℕ → Result ℕ Values

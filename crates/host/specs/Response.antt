@@ -2,6 +2,7 @@
 use Rattle.std.specs.Prelude.{ℕ, zero, suc, List, Ok, Err, Result}
 use Rattle.refusal.specs.Values.{Values}
 use Rattle.host.specs.declared.port.Port.{Port}
+use Rattle.host.specs.declared.response.Trial.{Trial}
 use Rattle.host.specs.Ports.{value_at, reading, writing, written, if_ok}
 
 -- the ports after n ticks
@@ -14,11 +15,15 @@ abbrev pub and_then : {X Y : Type 0} → Result X Values → Result Y Values →
 and_then (Ok x) y = y
 and_then (Err e) y = Err e
 
--- an order of v to port p, n ticks, and a read of the port shown: what it answers
-abbrev pub responding : (List Port → List Port) → List Port → ℕ → ℕ → ℕ → ℕ → Result ℕ Values
-responding rule ports p v n shown =
-    and_then (reading ports shown) (and_then (writing ports p v) (Ok (value_at (ticked n rule (written ports p v)) shown)))
+-- the ports after the order of a trial, and its ticks
+abbrev pub tried : (List Port → List Port) → List Port → Trial → List Port
+tried rule ports trial = ticked trial.ticks rule (written ports trial.port trial.value)
+
+-- what a trial answers: a refusal of the port shown, then of the order, and else what the port shows after the ticks
+abbrev pub responding : (List Port → List Port) → List Port → Trial → Result ℕ Values
+responding rule ports trial =
+    and_then (reading ports trial.shown) (and_then (writing ports trial.port trial.value) (Ok (value_at (tried rule ports trial) trial.shown)))
 
 -- and what the ports are then
-abbrev pub responded : (List Port → List Port) → List Port → ℕ → ℕ → ℕ → ℕ → List Port
-responded rule ports p v n shown = if_ok (responding rule ports p v n shown) (ticked n rule (written ports p v)) ports
+abbrev pub responded : (List Port → List Port) → List Port → Trial → List Port
+responded rule ports trial = if_ok (responding rule ports trial) (tried rule ports trial) ports

@@ -1,5 +1,6 @@
 ghost use Rattle.std.specs.Prelude.{◌≡◌};
-ghost use Rattle.host.specs.Axis.{axis_ports, ports_with, towards, axis_rule, axis_lawful, OrderedTo120};
+ghost use Rattle.host.specs.Axis.{axis_ports, ports_with, towards, axis_rule, axis_lawful, OrderedTo120, port_number};
+ghost use Rattle.host.specs.Ports.{NamesPort};
 
 use crate::Host;
 use crate::port::HostRefusal;
@@ -11,6 +12,31 @@ const GENTLEST_RAMP: u32 = 1;
 const STEEPEST_RAMP: u32 = 500;
 
 const RESTING_RAMP: u32 = 50;
+
+// The ports of an axis, port 0 first.
+#[derive(Clone, Copy, PartialEq, Eq, Debug)]
+enum AxisPort {
+    Ordered,
+    Ramp,
+    Speed,
+    Position,
+}
+
+impl TryFrom<usize> for AxisPort {
+    type Error = HostRefusal;
+
+    ghost try_from_gives = { NamesPort port_number 4 };
+
+    fn try_from(p: usize) -> Result<AxisPort, HostRefusal> {
+        match p {
+            0 => Ok(AxisPort::Ordered),
+            1 => Ok(AxisPort::Ramp),
+            2 => Ok(AxisPort::Speed),
+            3 => Ok(AxisPort::Position),
+            _ => Err(HostRefusal::NoPort),
+        }
+    }
+}
 
 /// A motor axis, with the values of its four ports.
 #[derive(Drop)]
@@ -38,63 +64,50 @@ impl AxisHost {
             position: 0,
         }
     }
-}
 
-// The speed after a tick.
-fn next_speed(ordered: u32, ramp: u32, speed: u32) -> u32
-    ensures { result ≡ towards ordered ramp speed }
-{
-    if speed <= ordered {
-        speed + ramp.min(ordered - speed)
-    } else {
-        speed - ramp.min(speed - ordered)
+    // The speed after a tick.
+    fn next_speed(&self) -> u32
+        ensures { result ≡ towards self.now.ordered self.now.ramp self.now.speed }
+    {
+        if self.speed <= self.ordered {
+            self.speed + self.ramp.min(self.ordered - self.speed)
+        } else {
+            self.speed - self.ramp.min(self.speed - self.ordered)
+        }
     }
 }
 
 impl Host for AxisHost {
-    ghost ports = { axis_ports };
-
-    ghost rule = { λ _. axis_rule };
-
     ghost Base = { Unit {0} };
 
     ghost base = { λ _. tt };
 
+    ghost ports = { axis_ports };
+
+    ghost rule = { λ _. axis_rule };
+
     fn read(&self, p: usize) -> Result<u32, HostRefusal> {
-        match p {
-            0 => Ok(self.ordered),
-            1 => Ok(self.ramp),
-            2 => Ok(self.speed),
-            3 => Ok(self.position),
-            _ => Err(HostRefusal::NoPort),
+        match AxisPort::try_from(p)? {
+            AxisPort::Ordered => Ok(self.ordered),
+            AxisPort::Ramp => Ok(self.ramp),
+            AxisPort::Speed => Ok(self.speed),
+            AxisPort::Position => Ok(self.position),
         }
     }
 
     fn write(&mut self, p: usize, v: u32) -> Result<(), HostRefusal> {
-        match p {
-            0 => {
-                if v > TOP_SPEED {
-                    return Err(HostRefusal::OutOfLimits);
-                }
-                self.ordered = v;
-                Ok(())
-            }
-            1 => {
-                if v < GENTLEST_RAMP || v > STEEPEST_RAMP {
-                    return Err(HostRefusal::OutOfLimits);
-                }
-                self.ramp = v;
-                Ok(())
-            }
-            2 | 3 => Err(HostRefusal::SensePort),
-            _ => Err(HostRefusal::NoPort),
+        match AxisPort::try_from(p)? {
+            AxisPort::Ordered if v <= TOP_SPEED => self.ordered = v,
+            AxisPort::Ramp if (GENTLEST_RAMP..=STEEPEST_RAMP).contains(&v) => self.ramp = v,
+            AxisPort::Ordered | AxisPort::Ramp => return Err(HostRefusal::OutOfLimits),
+            AxisPort::Speed | AxisPort::Position => return Err(HostRefusal::SensePort),
         }
+        Ok(())
     }
 
     fn tick(&mut self) {
-        let speed = next_speed(self.ordered, self.ramp, self.speed);
-        self.position = self.position.wrapping_add(speed);
-        self.speed = speed;
+        self.speed = self.next_speed();
+        self.position = self.position.wrapping_add(self.speed);
     }
 
     fn rest(&mut self) {

@@ -17,8 +17,8 @@ pub mod table;
 
 /// Anything that has ports and a tick rule, and keeps to them.
 ///
-/// A host is its ports, which a call may change, and its base, which none does. The tick rule is a function of the base: so
-/// no call changes the rule either, and no clause has to say it.
+/// A host is its ports, which a call may change, and its base, which no call does. The tick rule is a function of the base:
+/// that no call changes the rule follows from the clause `base` (`rule_kept` of `specs/Lawful`), and no clause says it again.
 pub trait Host {
     // Whatever there is of the host that no call changes.
     ghost Base: { Type 0 };

@@ -67,13 +67,11 @@ impl Port {
     {
         match self.flag {
             Flag::Sense => Err(HostRefusal::SensePort),
-            Flag::Order => {
-                if v < self.low || v > self.high {
-                    return Err(HostRefusal::OutOfLimits);
-                }
+            Flag::Order if (self.low..=self.high).contains(&v) => {
                 self.value = v;
                 Ok(())
             }
+            Flag::Order => Err(HostRefusal::OutOfLimits),
         }
     }
 
@@ -81,9 +79,8 @@ impl Port {
     pub fn rest(&mut self)
         ensures { self.new ≡ at_rest self.old }
     {
-        match self.rest {
-            Some(v) => self.value = v,
-            None => {}
+        if let Some(v) = self.rest {
+            self.value = v;
         }
     }
 }

@@ -22,36 +22,36 @@ pub fn advance<H: Host>(host: &mut H, ticks: u32)
     }
 }
 
-/// What a port shows some ticks after an order: gives port p the value v, lets the host advance, and reads port shown.
+/// A trial of a host: an order, some ticks, and a look at a port.
+#[derive(Clone, Copy, PartialEq, Eq, Debug)]
+pub struct Trial {
+    /// The port that is ordered.
+    pub port: usize,
+    /// The value that it is given.
+    pub value: u32,
+    pub ticks: u32,
+    /// The port that is read at last.
+    pub shown: usize,
+}
+
+/// What a host shows in a trial: gives the port its value, lets the host advance, and reads the port shown.
 /// A port that is absent, or an order that is refused, is refused before anything changes.
-pub fn respond<H: Host>(
-    host: &mut H,
-    p: usize,
-    v: u32,
-    ticks: u32,
-    shown: usize,
-) -> Result<u32, HostRefusal>
-    ensures answer { told result ≡ responding (H.rule (H.base host.old)) (H.ports host.old) p v ticks shown }
-    ensures ports { H.ports host.new ≡ responded (H.rule (H.base host.old)) (H.ports host.old) p v ticks shown }
+pub fn respond<H: Host>(host: &mut H, trial: Trial) -> Result<u32, HostRefusal>
+    ensures answer { told result ≡ responding (H.rule (H.base host.old)) (H.ports host.old) trial }
+    ensures ports { H.ports host.new ≡ responded (H.rule (H.base host.old)) (H.ports host.old) trial }
     ensures base { H.base host.new ≡ H.base host.old }
 {
-    host.read(shown)?;
-    host.write(p, v)?;
-    advance(host, ticks);
-    host.read(shown)
+    host.read(trial.shown)?;
+    host.write(trial.port, trial.value)?;
+    advance(host, trial.ticks);
+    host.read(trial.shown)
 }
 
 /// The same over a table of the caller's rows. Afterwards the first 256 rows are the ports, and the others as they were.
-pub fn respond_on_rows(
-    rows: &mut [Port],
-    p: usize,
-    v: u32,
-    ticks: u32,
-    shown: usize,
-) -> Result<u32, HostRefusal>
-    ensures answer { told result ≡ responding table_rule (take most_ports rows.old) p v ticks shown }
-    ensures rows { rows.new ≡ responded table_rule (take most_ports rows.old) p v ticks shown ++ drop most_ports rows.old }
+pub fn respond_on_rows(rows: &mut [Port], trial: Trial) -> Result<u32, HostRefusal>
+    ensures answer { told result ≡ responding table_rule (take most_ports rows.old) trial }
+    ensures rows { rows.new ≡ responded table_rule (take most_ports rows.old) trial ++ drop most_ports rows.old }
 {
     let mut table = TableHost::new(rows);
-    respond(&mut table, p, v, ticks, shown)
+    respond(&mut table, trial)
 }

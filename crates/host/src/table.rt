@@ -1,7 +1,7 @@
-ghost use Rattle.std.specs.Prelude.{◌≡◌, List, length, take, drop};
+ghost use Rattle.std.specs.Prelude.{◌≡◌, List, take, drop};
 ghost use Rattle.std.specs.Borrow.{GName};
 ghost use Rattle.host.specs.declared.port.Port.{Port as Row};
-ghost use Rattle.host.specs.Ports.{most_ports};
+ghost use Rattle.host.specs.Ports.{most_ports, rested};
 ghost use Rattle.host.specs.Table.{table_ports, table_rule, table_base, table_lawful};
 
 use crate::Host;
@@ -22,32 +22,41 @@ impl<'a> TableHost<'a> {
         TableHost { rows }
     }
 
-    // How many ports there are.
-    fn count(&self) -> usize
-        ensures { result ≡ length (table_ports self.now) }
+    // The rows that are ports.
+    fn ports(&self) -> &[Port]
+        ensures { result.now ≡ table_ports self.now }
     {
-        self.rows.len().min(MOST_PORTS)
+        &self.rows[..MOST_PORTS.min(self.rows.len())]
+    }
+}
+
+// Gives each row that is a port its rest value.
+fn rest_ports(rows: &mut [Port])
+    ensures ports { take most_ports rows.new ≡ rested (take most_ports rows.old) }
+    ensures past { drop most_ports rows.new ≡ drop most_ports rows.old }
+{
+    let count = MOST_PORTS.min(rows.len());
+    for port in &mut rows[..count] {
+        port.rest();
     }
 }
 
 impl<'a> Host for TableHost<'a> {
-    ghost ports = { table_ports };
-
-    ghost rule = { λ _. table_rule };
-
     ghost Base = { GName × List Row };
 
     ghost base = { table_base };
 
+    ghost ports = { table_ports };
+
+    ghost rule = { λ _. table_rule };
+
     fn read(&self, p: usize) -> Result<u32, HostRefusal> {
-        if p >= self.count() {
-            return Err(HostRefusal::NoPort);
-        }
-        Ok(self.rows[p].value)
+        let port = self.ports().get(p).ok_or(HostRefusal::NoPort)?;
+        Ok(port.value)
     }
 
     fn write(&mut self, p: usize, v: u32) -> Result<(), HostRefusal> {
-        if p >= self.count() {
+        if p >= self.ports().len() {
             return Err(HostRefusal::NoPort);
         }
         self.rows[p].order(v)
@@ -56,9 +65,7 @@ impl<'a> Host for TableHost<'a> {
     fn tick(&mut self) {}
 
     fn rest(&mut self) {
-        for p in 0..self.count() {
-            self.rows[p].rest();
-        }
+        rest_ports(self.rows);
     }
 
     ghost lawful = { table_lawful };

@@ -1,9 +1,8 @@
-use crate::seen::{refuses, shows, takes};
+use crate::seen::{refuses, shows, takes, trial};
 use host::Host;
 use host::axis::AxisHost;
 use host::port::HostRefusal;
 use host::response::{advance, respond};
-use std::test::Fail;
 
 #[test]
 fn a_new_axis_stands_still(rt: HostRuntime) {
@@ -14,31 +13,29 @@ fn a_new_axis_stands_still(rt: HostRuntime) {
 }
 
 #[test]
-fn orders_at_below_and_above_the_limits(rt: HostRuntime) -> Result<(), Fail> {
+fn orders_at_below_and_above_the_limits(rt: HostRuntime) {
     let mut axis = AxisHost::new();
     takes(&rt, &mut axis, 0, 3000);
-    refuses(&rt, &mut axis, 0, 3001, 6)?;
-    refuses(&rt, &mut axis, 0, u32::MAX, 6)?;
+    refuses(&rt, &mut axis, 0, 3001, 6);
+    refuses(&rt, &mut axis, 0, u32::MAX, 6);
     takes(&rt, &mut axis, 1, 1);
-    refuses(&rt, &mut axis, 1, 0, 6)?;
+    refuses(&rt, &mut axis, 1, 0, 6);
     shows(&rt, &axis, &[3000, 1, 0, 0]);
     takes(&rt, &mut axis, 1, 500);
-    refuses(&rt, &mut axis, 1, 501, 6)?;
+    refuses(&rt, &mut axis, 1, 501, 6);
     takes(&rt, &mut axis, 0, 0);
     shows(&rt, &axis, &[0, 500, 0, 0]);
-    Ok(())
 }
 
 #[test]
-fn sense_ports_and_ports_past_the_last(rt: HostRuntime) -> Result<(), Fail> {
+fn sense_ports_and_ports_past_the_last(rt: HostRuntime) {
     let mut axis = AxisHost::new();
-    refuses(&rt, &mut axis, 2, 0, 5)?;
-    refuses(&rt, &mut axis, 3, u32::MAX, 5)?;
-    refuses(&rt, &mut axis, 4, 0, 4)?;
-    refuses(&rt, &mut axis, 256, 0, 4)?;
-    refuses(&rt, &mut axis, usize::MAX, 0, 4)?;
+    refuses(&rt, &mut axis, 2, 0, 5);
+    refuses(&rt, &mut axis, 3, u32::MAX, 5);
+    refuses(&rt, &mut axis, 4, 0, 4);
+    refuses(&rt, &mut axis, 256, 0, 4);
+    refuses(&rt, &mut axis, usize::MAX, 0, 4);
     shows(&rt, &axis, &[0, 50, 0, 0]);
-    Ok(())
 }
 
 #[test]
@@ -120,19 +117,25 @@ fn rest_leaves_speed_and_position(rt: HostRuntime) {
 #[test]
 fn a_response_refused_changes_nothing(rt: HostRuntime) {
     let mut axis = AxisHost::new();
-    assert_eq!(rt; respond(&mut axis, 0, 120, 2, 2), Ok(100));
+    assert_eq!(rt; respond(&mut axis, trial(0, 120, 2, 2)), Ok(100));
     shows(&rt, &axis, &[120, 50, 100, 150]);
-    assert_eq!(rt; respond(&mut axis, 0, 60, 2, 4), Err(HostRefusal::NoPort));
-    assert_eq!(rt; respond(&mut axis, 4, 60, 2, 2), Err(HostRefusal::NoPort));
     assert_eq!(rt;
-        respond(&mut axis, 2, 60, 2, 2),
+        respond(&mut axis, trial(0, 60, 2, 4)),
+        Err(HostRefusal::NoPort)
+    );
+    assert_eq!(rt;
+        respond(&mut axis, trial(4, 60, 2, 2)),
+        Err(HostRefusal::NoPort)
+    );
+    assert_eq!(rt;
+        respond(&mut axis, trial(2, 60, 2, 2)),
         Err(HostRefusal::SensePort)
     );
     assert_eq!(rt;
-        respond(&mut axis, 0, 3001, 2, 2),
+        respond(&mut axis, trial(0, 3001, 2, 2)),
         Err(HostRefusal::OutOfLimits)
     );
     shows(&rt, &axis, &[120, 50, 100, 150]);
-    assert_eq!(rt; respond(&mut axis, 0, 60, 0, 3), Ok(150));
+    assert_eq!(rt; respond(&mut axis, trial(0, 60, 0, 3)), Ok(150));
     shows(&rt, &axis, &[60, 50, 100, 150]);
 }

@@ -1,12 +1,12 @@
 use host::Host;
 use host::port::HostRefusal;
+use host::response::Trial;
 use std::process::Abort;
-use std::test::Fail;
 
 // Wants these values at the ports, and no port after them.
 pub(crate) fn shows<H: Host>(rt: &impl Abort, host: &H, values: &[u32]) {
-    for p in 0..values.len() {
-        assert_eq!(rt; host.read(p), Ok(values[p]));
+    for (p, value) in values.iter().enumerate() {
+        assert_eq!(rt; host.read(p), Ok(*value));
     }
     assert_eq!(rt; host.read(values.len()), Err(HostRefusal::NoPort));
     assert_eq!(rt; host.read(usize::MAX), Err(HostRefusal::NoPort));
@@ -18,18 +18,19 @@ pub(crate) fn takes<H: Host>(rt: &impl Abort, host: &mut H, p: usize, v: u32) {
 }
 
 // A write that is refused with this number.
-pub(crate) fn refuses<H: Host>(
-    rt: &impl Abort,
-    host: &mut H,
-    p: usize,
-    v: u32,
-    number: u8,
-) -> Result<(), Fail> {
-    match host.write(p, v) {
-        Ok(()) => Err(Fail::new("the write was taken")),
-        Err(refusal) => {
-            assert_eq!(rt; (refusal.number(), refusal.layer()), (number, 3));
-            Ok(())
-        },
+pub(crate) fn refuses<H: Host>(rt: &impl Abort, host: &mut H, p: usize, v: u32, number: u8) {
+    let answer = host
+        .write(p, v)
+        .map_err(|refusal| (refusal.number(), refusal.layer()));
+    assert_eq!(rt; answer, Err((number, 3)));
+}
+
+// An order of v to port p, so many ticks, and a look at the port shown.
+pub(crate) fn trial(port: usize, value: u32, ticks: u32, shown: usize) -> Trial {
+    Trial {
+        port,
+        value,
+        ticks,
+        shown,
     }
 }
