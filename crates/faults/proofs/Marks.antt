@@ -1,69 +1,57 @@
 -- Lists in which no marked fault stands after one without a mark.
-use Rattle.std.proofs.Common.{◌≡◌, ℕ, zero, suc, ◌-◌, ◌<◌, true, false, not, List, [], ◌∷◌, ◌++◌, map, length, get_or, drop, filter, sym, refl, ◌∙◌, inl, inr, arith}
-use Rattle.std.proofs.lemmas.Bool.{cases_Bool, cond-true, cond-false, and_parts, and_from, not-true, not_from_false, eqb-true, eq-eqb, both_ways}
-use Rattle.faults.specs.Faults.{FaultValues, no_fault, marked, is_marked}
-use Rattle.faults.specs.Lists.{most_faults, newest, cycled, none_marked, marked_first, MarkedFirst}
+use Rattle.std.proofs.Common.{◌≡◌, ℕ, zero, suc, ◌+◌, ◌<◌, true, false, not, List, [], ◌∷◌, ◌++◌, map, length, get_or, drop, filter, sym, refl, ap, ◌∙◌, inl, inr, arith}
+use Rattle.std.proofs.lemmas.Bool.{cases_lt, both_ways, cond-true, cond-false}
+use Rattle.std.proofs.lemmas.List.{length-map, length-drop, length_push, get_or-map, get_or-drop, get_or_append_left}
+use Rattle.std.proofs.Math.Seq.{get_or-append_seam}
+use Rattle.std.specs.List.{AllWithin}
+use Rattle.std.specs.List.Sorted.{IsPartitionedBy}
+use Rattle.faults.specs.declared.fault.Fault.{Fault}
+use Rattle.faults.specs.Faults.{FaultValues, values_of, marked, is_marked}
+use Rattle.faults.specs.Lists.{cycled, MarkedFirst}
+use Rattle.faults.proofs.Rows.{mark_is}
 
-pub none_first : (faults : List FaultValues) → none_marked faults ≡ true → marked_first faults ≡ true
-none_first [] h = refl
-none_first (fault ∷ faults) h =
-    let parts = and_parts _ _ h in
-    cond-false (is_marked fault) _ _ (not-true _ parts.0) ∙ parts.1
+pub first-drop : (n : ℕ) (faults : List FaultValues) → MarkedFirst faults → MarkedFirst (drop n faults)
+first-drop n faults first i j d le lt m =
+    ap is_marked (get_or-drop n faults i d)
+    ∙ first (n + i) (n + j) d (omega arith) (omega (arith, length-drop n faults)) (sym (ap is_marked (get_or-drop n faults j d)) ∙ m)
 
-none_at : (faults : List FaultValues) (j : ℕ) → none_marked faults ≡ true → j < length faults → (get_or faults j no_fault).mark ≡ 1 → ⊥
-none_at [] j none h m = omega arith
-none_at (fault ∷ faults) zero none h m = both_ways (is_marked fault) (not-true _ (and_parts _ _ none).0) (eq-eqb fault.mark 1 m)
-none_at (fault ∷ faults) (suc j) none h m = none_at faults j (and_parts _ _ none).1 (omega arith) m
-
-marked_below : (fault : FaultValues) (faults : List FaultValues) (j : ℕ)
-    → is_marked fault ≡ true
-    → ((i : ℕ) → i < j → (get_or faults i no_fault).mark ≡ 1)
-    → (i : ℕ) → i < suc j → (get_or (fault ∷ faults) i no_fault).mark ≡ 1
-marked_below fault faults j y h zero less = eqb-true fault.mark 1 y
-marked_below fault faults j y h (suc i) less = h i (omega arith)
-
--- the test says what it should
-pub marked_first_lem : (faults : List FaultValues) → marked_first faults ≡ true → MarkedFirst faults
-marked_first_lem [] first i j less h m = absurd (omega arith)
-marked_first_lem (fault ∷ faults) first i zero less h m = absurd (omega arith)
-marked_first_lem (fault ∷ faults) first i (suc j) less h m = elim (cases_Bool (is_marked fault)) [
-  | inl y ↦
-      let later : marked_first faults ≡ true = sym (cond-true (is_marked fault) _ _ y) ∙ first in
-      marked_below fault faults j y (λ k l. marked_first_lem faults later k j l (omega arith) m) i less
-  | inr n ↦ absurd (none_at faults j (sym (cond-false (is_marked fault) _ _ n) ∙ first) (omega arith) m)
+pub first-push : (new : FaultValues) → is_marked new ≡ false → (faults : List FaultValues) → MarkedFirst faults → MarkedFirst (faults ++ (new ∷ []))
+first-push new unmarked faults first i j d le lt m = elim (cases_lt j (length faults)) [
+  | inl h ↦
+      let here : (k : ℕ) → k < length faults → is_marked (get_or (faults ++ (new ∷ [])) k d) ≡ is_marked (get_or faults k d)
+      = λ k less. ap is_marked (get_or_append_left faults (new ∷ []) d k less) in
+      here i (omega arith) ∙ first i j d le h (sym (here j h) ∙ m)
+  | inr h ↦
+      let last : j ≡ length faults = omega (arith, length_push faults new) in
+      let new-marked = sym (ap is_marked (ap (λ k. get_or (faults ++ (new ∷ [])) k d) last ∙ get_or-append_seam faults new [] d)) ∙ m in
+      absurd (both_ways (is_marked new) unmarked new-marked)
 ]
-
-first_tail : (fault : FaultValues) (faults : List FaultValues) → marked_first (fault ∷ faults) ≡ true → marked_first faults ≡ true
-first_tail fault faults h = elim (cases_Bool (is_marked fault)) [
-  | inl y ↦ sym (cond-true (is_marked fault) _ _ y) ∙ h
-  | inr n ↦ none_first faults (sym (cond-false (is_marked fault) _ _ n) ∙ h)
-]
-
-pub first-drop : (n : ℕ) (faults : List FaultValues) → marked_first faults ≡ true → marked_first (drop n faults) ≡ true
-first-drop zero faults h = h
-first-drop (suc n) [] h = refl
-first-drop (suc n) (fault ∷ faults) h = first-drop n faults (first_tail fault faults h)
-
--- one more fault, without a mark
-module _ (new : FaultValues) (unmarked : is_marked new ≡ false) where
-  none_push : (faults : List FaultValues) → none_marked faults ≡ true → none_marked (faults ++ (new ∷ [])) ≡ true
-  none_push [] h = and_from _ _ (not_from_false _ unmarked) refl
-  none_push (fault ∷ faults) h = let parts = and_parts _ _ h in and_from _ _ parts.0 (none_push faults parts.1)
-
-  pub first-push : (faults : List FaultValues) → marked_first faults ≡ true → marked_first (faults ++ (new ∷ [])) ≡ true
-  first-push [] h = cond-false (is_marked new) _ _ unmarked
-  first-push (fault ∷ faults) h = elim (cases_Bool (is_marked fault)) [
-    | inl y ↦ cond-true (is_marked fault) _ _ y ∙ first-push faults (sym (cond-true (is_marked fault) _ _ y) ∙ h)
-    | inr n ↦ cond-false (is_marked fault) _ _ n ∙ none_push faults (sym (cond-false (is_marked fault) _ _ n) ∙ h)
-  ]
-
-  pub first-newest : (faults : List FaultValues) → marked_first faults ≡ true → marked_first (newest (faults ++ (new ∷ []))) ≡ true
-  first-newest faults h = first-drop (length (faults ++ (new ∷ [])) - most_faults) (faults ++ (new ∷ [])) (first-push faults h)
-
-all_first : (faults : List FaultValues) → marked_first (map marked faults) ≡ true
-all_first [] = refl
-all_first (fault ∷ faults) = all_first faults
 
 -- after a power cycle all are marked
-pub first-cycled : (faults : List FaultValues) → marked_first (cycled faults) ≡ true
-first-cycled faults = all_first (filter (λ fault. not (is_marked fault)) faults)
+pub first-cycled : (faults : List FaultValues) → MarkedFirst (cycled faults)
+first-cycled faults i j d le lt m =
+    let left = filter (λ fault. not (is_marked fault)) faults in
+    ap is_marked (get_or-map marked left i d d (omega (arith, length-map left marked)))
+
+-- the same of rows, by their flags
+pub first_rows : (rows : List Fault) → MarkedFirst (map values_of rows) → IsPartitionedBy (λ fault. fault.marked) rows
+first_rows rows first i j d le lt m =
+    let flag : (k : ℕ) → k < length rows → is_marked (get_or (map values_of rows) k (values_of d)) ≡ (get_or rows k d).marked
+    = λ k h. ap is_marked (get_or-map values_of rows k d (values_of d) h) ∙ mark_is (get_or rows k d) in
+    sym (flag i (omega arith)) ∙ first i j (values_of d) le (omega (arith, length-map rows values_of)) (flag j lt ∙ m)
+
+-- where the first k rows are marked and the others not, a cycle leaves the others
+pub left_after : (k : ℕ) (rows : List Fault)
+    → AllWithin (λ fault. fault.marked ≡ true) rows 0 k
+    → AllWithin (λ fault. fault.marked ≡ false) rows k (length rows)
+    → filter (λ fault. not (is_marked fault)) (map values_of rows) ≡ drop k (map values_of rows)
+left_after zero [] before after = refl
+left_after (suc k) [] before after = refl
+left_after zero (row ∷ rows) before after =
+    let here : is_marked (values_of row) ≡ false = mark_is row ∙ after 0 row (omega arith) (omega arith) in
+    let later = left_after zero rows (λ k d low high. absurd (omega arith)) (λ k d low high. after (suc k) d (omega arith) (omega arith)) in
+    cond-true _ _ _ (ap not here) ∙ ap (λ rest. values_of row ∷ rest) later
+left_after (suc k) (row ∷ rows) before after =
+    let here : is_marked (values_of row) ≡ true = mark_is row ∙ before 0 row (omega arith) (omega arith) in
+    let later = left_after k rows (λ i d low high. before (suc i) d (omega arith) (omega arith)) (λ i d low high. after (suc i) d (omega arith) (omega arith)) in
+    cond-false _ _ _ (ap not here) ∙ later

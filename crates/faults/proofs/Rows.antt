@@ -1,27 +1,40 @@
 -- Rows of a table, and the numbers of their faults.
-use Rattle.std.proofs.Common.{◌≡◌, ℕ, ◌<◌, true, false, eqb, List, map, length, get_or, set, sym, refl, ap, ◌∙◌, arith}
-use Rattle.std.proofs.lemmas.List.{length-map, get_or-map, map-set}
+use Rattle.std.proofs.Common.{◌≡◌, ℕ, suc, ◌+◌, ◌-◌, ◌<◌, ◌≤◌, true, false, eqb, List, [], ◌∷◌, ◌++◌, map, length, get_or, take, drop, set, sym, refl, ap, ◌∙◌, arith}
+use Rattle.std.proofs.Math.Seq.{set-append_seam}
+use Rattle.std.proofs.lemmas.List.{get_or-map, map-set, take-map, drop-map, map-append, take-append-le, drop-take, length-drop}
 use Rattle.faults.specs.declared.fault.Fault.{Fault}
 use Rattle.faults.specs.Faults.{no_fault, values_of, marked, is_marked, mark_of}
-use Rattle.faults.specs.Lists.{most_faults}
 
 -- the mark is what the flag says
 pub mark_is : (fault : Fault) → is_marked (values_of fault) ≡ fault.marked
 mark_is fault = elim fault.marked as (λ b. eqb (mark_of b) 1 ≡ b) [ true ↦ refl | false ↦ refl ]
 
-module _ (rows : List Fault) (whole : length (map values_of rows) ≡ most_faults) (i : ℕ) (h : i < most_faults) where
-  pub in_rows : i < length rows
-  in_rows = omega (arith, length-map rows values_of)
+-- row i with its flag set
+pub row_marked : (rows : List Fault) (i : ℕ) (d : Fault)
+    → i < length rows
+    → map values_of (set rows i (record { cause = (get_or rows i d).cause; place = (get_or rows i d).place; marked = true }))
+    ≡ set (map values_of rows) i (marked (get_or (map values_of rows) i no_fault))
+row_marked rows i d h = map-set values_of rows i _ ∙ ap (λ fault. set (map values_of rows) i (marked fault)) (sym (get_or-map values_of rows i d no_fault h))
 
-  pub row_is : (d : Fault) → values_of (get_or rows i d) ≡ get_or (map values_of rows) i no_fault
-  row_is d = sym (get_or-map values_of rows i d no_fault in_rows)
+-- rows that are turned round by k
+pub turned_rows : (k : ℕ) (old new : List Fault) → new ≡ drop k old ++ take k old → map values_of new ≡ drop k (map values_of old) ++ take k (map values_of old)
+turned_rows k old new is =
+    ap (map values_of) is ∙ map-append values_of (drop k old) (take k old) ∙ (λ i. sym (drop-map values_of k old) i ++ sym (take-map values_of k old) i)
 
-  -- row i with its flag set
-  pub row_marked : (d : Fault)
-      → map values_of (set rows i (record { cause = (get_or rows i d).cause; place = (get_or rows i d).place; marked = true }))
-      ≡ set (map values_of rows) i (marked (get_or (map values_of rows) i no_fault))
-  row_marked d = map-set values_of rows i _ ∙ ap (λ fault. set (map values_of rows) i (marked fault)) (row_is d)
+-- rows that are turned round by one, with another row in the last place
+pub turned_put : {X : Type 0} (n : ℕ) (xs : List X) (y : X) → length xs ≡ suc n → set (drop 1 xs ++ take 1 xs) n y ≡ drop 1 xs ++ (y ∷ [])
+turned_put n [] y h = absurd (omega arith)
+turned_put n (x ∷ xs) y h =
+    let last : n ≡ length xs = omega arith in
+    ap (λ k. set (xs ++ (x ∷ [])) k y) last ∙ set-append_seam xs x [] y
 
-  -- row i over row j
-  pub row_carried : (d : Fault) (j : ℕ) → map values_of (set rows j (get_or rows i d)) ≡ set (map values_of rows) j (get_or (map values_of rows) i no_fault)
-  row_carried d j = map-set values_of rows j _ ∙ ap (set (map values_of rows) j) (row_is d)
+-- rows that are turned round by as many as go: those that are left stand first
+pub turned_left : {X : Type 0} (gone count : ℕ) (xs : List X)
+    → gone ≤ count
+    → count ≤ length xs
+    → take (count - gone) (drop gone xs ++ take gone xs) ≡ drop gone (take count xs)
+turned_left gone count xs h h' =
+    let all : gone + (count - gone) ≡ count = omega arith in
+    take-append-le (count - gone) (drop gone xs) (take gone xs) (omega (arith, length-drop gone xs))
+    ∙ sym (drop-take gone (count - gone) xs)
+    ∙ ap (λ n. drop gone (take n xs)) all

@@ -37,10 +37,8 @@ impl Cause {
         ensures { result ≡ (cause_of self).layer }
     {
         match self {
-            Cause::ZeroDivisor => ENGINE,
-            Cause::MemoryPassed { .. } => ENGINE,
-            Cause::TooDeep => ENGINE,
             Cause::Host { refusal, .. } => refusal.layer(),
+            _ => ENGINE,
         }
     }
 
@@ -49,9 +47,8 @@ impl Cause {
         ensures { result ≡ (cause_of self).detail }
     {
         match self {
-            Cause::ZeroDivisor => 0,
+            Cause::ZeroDivisor | Cause::TooDeep => 0,
             Cause::MemoryPassed { address } => address,
-            Cause::TooDeep => 0,
             Cause::Host { port, .. } => port as u64,
         }
     }

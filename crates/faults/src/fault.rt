@@ -17,6 +17,6 @@ impl Fault {
     pub fn mark(self) -> u8
         ensures { result ≡ (values_of self).mark }
     {
-        if self.marked { 1 } else { 0 }
+        u8::from(self.marked)
     }
 }

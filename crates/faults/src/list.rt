@@ -1,5 +1,5 @@
-ghost use Rattle.std.specs.Prelude.{◌≡◌, ◌≤◌, true, length, take};
-ghost use Rattle.faults.specs.Lists.{most_faults, marked_first};
+ghost use Rattle.std.specs.Prelude.{◌≤◌, take};
+ghost use Rattle.faults.specs.Lists.{most_faults, MarkedFirst};
 ghost use Rattle.faults.specs.Tables.{rows_of};
 
 use crate::table::FaultTable;
@@ -13,6 +13,5 @@ pub struct FaultList {
     table: FaultTable,
     count: usize,
     ghost few: { count ≤ most_faults },
-    ghost whole: { length (rows_of table) ≡ most_faults },
-    ghost sorted: { marked_first (take count (rows_of table)) ≡ true },
+    ghost sorted: { MarkedFirst (take count (rows_of table)) },
 }

@@ -1,5 +1,6 @@
-ghost use Rattle.std.specs.Prelude.{◌≡◌, ◌≤◌, length};
-ghost use Rattle.faults.specs.Lists.{most_faults, fault_at, MarkedFirst};
+ghost use Rattle.std.specs.Prelude.{◌≡◌, ◌≤◌, length, map, slice_get};
+ghost use Rattle.faults.specs.Faults.{values_of};
+ghost use Rattle.faults.specs.Lists.{most_faults, MarkedFirst};
 ghost use Rattle.faults.specs.Shown.{faults_of, shown};
 
 use crate::fault::Fault;
@@ -12,16 +13,20 @@ impl FaultList {
         ensures few { result ≤ most_faults }
         ensures sorted { MarkedFirst (faults_of self.now) }
     {
-        self.count
+        self.faults().len()
     }
 
     /// The fault at place i, the oldest at 0, or None past the end.
     pub fn get(&self, i: usize) -> Option<Fault>
-        ensures { shown result ≡ fault_at (faults_of self.now) i }
+        ensures { shown result ≡ slice_get (faults_of self.now) i }
     {
-        if i >= self.len() {
-            return None;
-        }
-        Some(self.table.get(i))
+        self.faults().get(i).copied()
+    }
+
+    // The faults, the oldest first.
+    fn faults(&self) -> &[Fault]
+        ensures { map values_of result.now ≡ faults_of self.now }
+    {
+        self.table.first(self.count)
     }
 }

@@ -1,26 +1,34 @@
-use Rattle.std.proofs.Common.{◌≡◌, take, refl, ap, ◌∙◌, arith}
-use Rattle.faults.specs.Lists.{cycled}
+use Rattle.std.proofs.Common.{◌≡◌, ◌-◌, ◌<◌, ◌≤◌, ◌++◌, length, not, List, map, take, drop, filter, sym, ap, ◌∙◌, subst, arith, rules}
+use Rattle.std.proofs.lemmas.List.{length-map, length-take}
+use Rattle.std.proofs.lemmas.List.Sorted.{IsPartitionPoint-from_clause}
+use Rattle.faults.specs.Faults.{FaultValues, no_fault, values_of, marked, is_marked}
+use Rattle.faults.specs.Lists.{MarkedFirst}
 use Rattle.faults.specs.Tables.{rows_of}
-use Rattle.faults.proofs.Cycles.{kept_more}
+use Rattle.host.proofs.Sweep.{swept_more, take-swept}
+use Rattle.faults.proofs.Marks.{first_rows, left_after}
+use Rattle.faults.proofs.Rows.{turned_rows, turned_left}
 use Rattle.faults.proofs.table.FaultTable.cycle.Goals as goal
-
-pub loop-i-init : goal.loop-i-init
-loop-i-init c = record { few = omega arith; done = refl; rest = refl; whole = refl }
-
-pub keep-left-requires : goal.keep-left-requires
-keep-left-requires c = record { whole = omega arith; row = omega arith; left = omega arith }
 
 pub loop-i-preserved : goal.loop-i-preserved
 loop-i-preserved c =
-    let old = rows_of c.args.self.now in
-    let i = c.loop-i.i in
-    kept_more old (rows_of c.loop-i.self) i c.loop-i.left c.loop-i.invariant (omega arith) _ _ c.keep-left.ensures.rows c.keep-left.ensures.left
+    let begun = map values_of c.rotate_left.new.self in
+    let in-begun : c.loop-i.i < length begun = omega (arith, length-map c.rotate_left.new.self values_of) in
+    c.mark.ensures ∙ swept_more marked no_fault c.loop-i.i begun (rows_of c.loop-i.self) in-begun c.loop-i.invariant
 
-pub returns : goal.returns
-returns c =
-    let all : c.loop-i.i ≡ c.args.count = omega arith in
-    record {
-      left = c.loop-i.invariant.done ∙ ap (λ n. cycled (take n (rows_of c.args.self.now))) all;
-      few = omega arith;
-      whole = omega arith;
-    }
+pub returns-clause-left : goal.returns-clause-left
+returns-clause-left c =
+    let first = c.first.result.now in
+    let gone = c.partition_point-gone.result in
+    let count = c.args.count - gone in
+    let parted = first_rows first (subst MarkedFirst (sym c.first.ensures) c.requires.sorted) in
+    let point = IsPartitionPoint-from_clause (λ fault. fault.marked) first gone c.partition_point-gone.ensures.partitioned parted (λ a r q k. search rules) in
+    let Left : List FaultValues → Type 0 = λ faults. filter (λ fault. not (is_marked fault)) faults ≡ drop gone faults in
+    let left = subst Left c.first.ensures (left_after gone first point.0 point.1) in
+    let rows = rows_of c.args.self.now in
+    let begun = map values_of c.rotate_left.new.self in
+    let turned = turned_rows gone c.args.self.now.rows c.rotate_left.new.self c.rotate_left.ensures.after in
+    let few : gone ≤ c.args.count = omega (arith, ap length c.first.ensures, length-map first values_of, length-take c.args.count rows) in
+    let stand = turned_left gone c.args.count rows few (omega (arith, length-map c.args.self.now.rows values_of)) in
+    let all : c.loop-i.i ≡ count = omega arith in
+    let done = c.loop-i.invariant ∙ ap (λ i. map marked (take i begun) ++ drop i begun) all in
+    ap (take count) done ∙ take-swept marked count begun ∙ ap (map marked) (ap (take count) turned ∙ stand ∙ sym left)
