@@ -1,7 +1,9 @@
 ghost use Rattle.std.specs.Prelude.{◌≡◌};
+ghost use Rattle.refusal.specs.Values.{layer_number};
 ghost use Rattle.faults.specs.Causes.{cause_of};
 
 use host::port::HostRefusal;
+use refusal::Layer;
 
 /// Why a step trips.
 #[derive(Clone, Copy, PartialEq, Eq, Debug)]
@@ -16,9 +18,6 @@ pub enum Cause {
     Host { refusal: HostRefusal, port: usize },
 }
 
-// The layer of the causes that are not the host's.
-const ENGINE: u8 = 2;
-
 impl Cause {
     /// The number by which the documents name the cause.
     pub fn number(self) -> u8
@@ -32,13 +31,13 @@ impl Cause {
         }
     }
 
-    /// Who causes it: 2 the engine, 3 the host.
-    pub fn layer(self) -> u8
-        ensures { result ≡ (cause_of self).layer }
+    /// Who causes it: the engine or the host.
+    pub fn layer(self) -> Layer
+        ensures { layer_number result ≡ (cause_of self).layer }
     {
         match self {
             Cause::Host { refusal, .. } => refusal.layer(),
-            _ => ENGINE,
+            _ => Layer::Engine,
         }
     }
 

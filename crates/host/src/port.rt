@@ -1,6 +1,9 @@
 ghost use Rattle.std.specs.Prelude.{◌≡◌};
+ghost use Rattle.refusal.specs.Values.{layer_number};
 ghost use Rattle.host.specs.Refusals.{told, values_of};
 ghost use Rattle.host.specs.Ports.{ordering, ordered, at_rest};
+
+use refusal::Layer;
 
 /// The most ports that a host has.
 pub const MOST_PORTS: usize = 256;
@@ -36,9 +39,6 @@ pub enum HostRefusal {
     OutOfLimits,
 }
 
-// The layer of a host's refusals.
-const LAYER: u8 = 3;
-
 impl HostRefusal {
     /// The number by which the documents name the refusal.
     pub fn number(self) -> u8
@@ -51,11 +51,11 @@ impl HostRefusal {
         }
     }
 
-    /// Who causes it: 3, the host.
-    pub fn layer(self) -> u8
-        ensures { result ≡ (values_of self).layer }
+    /// Who causes it: the host.
+    pub fn layer(self) -> Layer
+        ensures { layer_number result ≡ (values_of self).layer }
     {
-        LAYER
+        Layer::Host
     }
 }
 

@@ -1,6 +1,7 @@
 use host::Host;
 use host::port::HostRefusal;
 use host::response::Trial;
+use refusal::Layer;
 use std::process::Abort;
 
 // Wants these values at the ports, and no port after them.
@@ -22,7 +23,7 @@ pub(crate) fn refuses<H: Host>(rt: &impl Abort, host: &mut H, p: usize, v: u32, 
     let answer = host
         .write(p, v)
         .map_err(|refusal| (refusal.number(), refusal.layer()));
-    assert_eq!(rt; answer, Err((number, 3)));
+    assert_eq!(rt; answer, Err((number, Layer::Host)));
 }
 
 // An order of v to port p, so many ticks, and a look at the port shown.

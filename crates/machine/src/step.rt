@@ -103,8 +103,7 @@ impl Machine {
     pub fn step<H: Host>(&mut self, checked: &Checked, host: &mut H)
         requires running { self.old.state ≡ Running }
         requires able { able (bytes_of checked.now.opened) (running self.old.stack) (waiting self.old.stack) ≡ true }
-        ensures step { stepped (bytes_of checked.now.opened) (H.rule host.old) (world_of self.old (H.ports host.old)) ≡ Some (world_of self.new (H.ports host.new)) }
-        ensures rule { H.rule host.new ≡ H.rule host.old }
+        ensures step { stepped (bytes_of checked.now.opened) (H.rule (H.base host.old)) (world_of self.old (H.ports host.old)) ≡ Some (world_of self.new (H.ports host.new)) }
         ensures base { H.base host.new ≡ H.base host.old }
     {
         let routine = self.stack.routine();

@@ -31,7 +31,7 @@ fn filled(faults: u16) -> FaultList {
 // Wants this cause to have these three numbers.
 fn tells(rt: &impl Abort, cause: Cause, number: u8, layer: u8, detail: u64) {
     assert_eq!(rt; cause.number(), number);
-    assert_eq!(rt; cause.layer(), layer);
+    assert_eq!(rt; u8::from(cause.layer()), layer);
     assert_eq!(rt; cause.detail(), detail);
 }
 

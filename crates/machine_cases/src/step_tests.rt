@@ -28,7 +28,7 @@ fn trip_of(state: State) -> (bool, (u8, u8, u16, u16, u64)) {
             true,
             (
                 cause.number(),
-                cause.layer(),
+                u8::from(cause.layer()),
                 place.routine,
                 place.instruction,
                 cause.detail(),

@@ -421,13 +421,12 @@ returns-in-New g c =
     let m = c.args.self.now in
     let s = m.stack in
     let host = c.args.host.now in
-    let rule = g.H.Host.rule host in
+    let rule = g.H.Host.rule (g.H.Host.base host) in
     let ports = g.H.Host.ports host in
     let x : Instr = New in
     let e = standing bs s c.routine-routine.result c.pc-pc.result x (sym (ap Some c.in-New.is) ∙ c.in-Some.ensures) c.routine-routine.ensures c.pc-pc.ensures in
     record {
       step = went bs rule m ports c.requires.running c.requires.able x e _ _ _ _ _ refl c.push.ensures.running c.push.ensures.waiting refl refl;
-      rule = refl;
       base = refl;
     }
 
@@ -438,13 +437,12 @@ returns-in-Def g c =
     let m = c.args.self.now in
     let s = m.stack in
     let host = c.args.host.now in
-    let rule = g.H.Host.rule host in
+    let rule = g.H.Host.rule (g.H.Host.base host) in
     let ports = g.H.Host.ports host in
     let x : Instr = Def c.in-Def.n in
     let e = standing bs s c.routine-routine.result c.pc-pc.result x (sym (ap Some c.in-Def.is) ∙ c.in-Some.ensures) c.routine-routine.ensures c.pc-pc.ensures in
     record {
       step = went bs rule m ports c.requires.running c.requires.able x e _ _ _ _ _ refl c.push-in-Def.ensures.running c.push-in-Def.ensures.waiting refl refl;
-      rule = refl;
       base = refl;
     }
 
@@ -455,13 +453,12 @@ returns-in-Kill g c =
     let m = c.args.self.now in
     let s = m.stack in
     let host = c.args.host.now in
-    let rule = g.H.Host.rule host in
+    let rule = g.H.Host.rule (g.H.Host.base host) in
     let ports = g.H.Host.ports host in
     let x : Instr = Kill in
     let e = standing bs s c.routine-routine.result c.pc-pc.result x (sym (ap Some c.in-Kill.is) ∙ c.in-Some.ensures) c.routine-routine.ensures c.pc-pc.ensures in
     record {
       step = went bs rule m ports c.requires.running c.requires.able x e _ _ _ _ _ refl c.pop.ensures.running c.pop.ensures.waiting refl refl;
-      rule = refl;
       base = refl;
     }
 
@@ -472,13 +469,12 @@ returns-in-Mov g c =
     let m = c.args.self.now in
     let s = m.stack in
     let host = c.args.host.now in
-    let rule = g.H.Host.rule host in
+    let rule = g.H.Host.rule (g.H.Host.base host) in
     let ports = g.H.Host.ports host in
     let x : Instr = Mov c.in-Mov.a c.in-Mov.b in
     let e = standing bs s c.routine-routine.result c.pc-pc.result x (sym (ap Some c.in-Mov.is) ∙ c.in-Some.ensures) c.routine-routine.ensures c.pc-pc.ensures in
     record {
       step = went bs rule m ports c.requires.running c.requires.able x e _ _ _ _ _ refl (c.write.ensures.running ∙ ap (wrote (running s) c.in-Mov.a) c.read-v.ensures) c.write.ensures.waiting refl refl;
-      rule = refl;
       base = refl;
     }
 
@@ -489,13 +485,12 @@ returns-in-Swap g c =
     let m = c.args.self.now in
     let s = m.stack in
     let host = c.args.host.now in
-    let rule = g.H.Host.rule host in
+    let rule = g.H.Host.rule (g.H.Host.base host) in
     let ports = g.H.Host.ports host in
     let x : Instr = Swap c.in-Swap.a c.in-Swap.b in
     let e = standing bs s c.routine-routine.result c.pc-pc.result x (sym (ap Some c.in-Swap.is) ∙ c.in-Some.ensures) c.routine-routine.ensures c.pc-pc.ensures in
     record {
       step = went bs rule m ports c.requires.running c.requires.able x e _ _ _ _ _ refl c.swap.ensures.running c.swap.ensures.waiting refl refl;
-      rule = refl;
       base = refl;
     }
 
@@ -506,7 +501,7 @@ returns-in-Calc g c =
     let m = c.args.self.now in
     let s = m.stack in
     let host = c.args.host.now in
-    let rule = g.H.Host.rule host in
+    let rule = g.H.Host.rule (g.H.Host.base host) in
     let ports = g.H.Host.ports host in
     let x : Instr = Calc c.in-Calc.operation c.in-Calc.a c.in-Calc.b c.in-Calc.c in
     let e = standing bs s c.routine-routine.result c.pc-pc.result x (sym (ap Some c.in-Calc.is) ∙ c.in-Some.ensures) c.routine-routine.ensures c.pc-pc.ensures in
@@ -514,7 +509,6 @@ returns-in-Calc g c =
     c.calculate-v.ensures ∙ (λ i. calculated c.in-Calc.operation (c.read.ensures i) (c.read-in-Calc.ensures i)) in
     record {
       step = went bs rule m ports c.requires.running c.requires.able x e _ _ _ _ _ refl (c.write-in-Calc.ensures.running ∙ ap (wrote (running s) c.in-Calc.a) v) c.write-in-Calc.ensures.waiting refl refl;
-      rule = refl;
       base = refl;
     }
 
@@ -525,7 +519,7 @@ returns-in-Some-divide g c =
     let m = c.args.self.now in
     let s = m.stack in
     let host = c.args.host.now in
-    let rule = g.H.Host.rule host in
+    let rule = g.H.Host.rule (g.H.Host.base host) in
     let ports = g.H.Host.ports host in
     let x : Instr = Divide c.in-Divide.part c.in-Divide.kind c.in-Divide.a c.in-Divide.b c.in-Divide.c in
     let e = standing bs s c.routine-routine.result c.pc-pc.result x (sym (ap Some c.in-Divide.is) ∙ c.in-Some.ensures) c.routine-routine.ensures c.pc-pc.ensures in
@@ -533,7 +527,6 @@ returns-in-Some-divide g c =
     c.in-Some-divide.ensures.value ∙ (λ i. divided c.in-Divide.part c.in-Divide.kind (c.read-in-Divide.ensures i) (c.read-in-Divide-2.ensures i)) in
     record {
       step = went bs rule m ports c.requires.running c.requires.able x e _ _ _ _ _ (ap (λ o. or_trip o (by_engine 1 0) (λ v. goes (wrote (running s) c.in-Divide.a v ∷ waiting s) m.memory.bytes ports)) (sym given)) c.write-in-Some-divide.ensures.running c.write-in-Some-divide.ensures.waiting refl refl;
-      rule = refl;
       base = refl;
     }
 
@@ -544,7 +537,7 @@ returns-in-None g c =
     let m = c.args.self.now in
     let s = m.stack in
     let host = c.args.host.now in
-    let rule = g.H.Host.rule host in
+    let rule = g.H.Host.rule (g.H.Host.base host) in
     let ports = g.H.Host.ports host in
     let x : Instr = Divide c.in-Divide.part c.in-Divide.kind c.in-Divide.a c.in-Divide.b c.in-Divide.c in
     let e = standing bs s c.routine-routine.result c.pc-pc.result x (sym (ap Some c.in-Divide.is) ∙ c.in-Some.ensures) c.routine-routine.ensures c.pc-pc.ensures in
@@ -552,7 +545,6 @@ returns-in-None g c =
     c.in-None.ensures.value ∙ (λ i. divided c.in-Divide.part c.in-Divide.kind (c.read-in-Divide.ensures i) (c.read-in-Divide-2.ensures i)) in
     record {
       step = tripped_here bs rule m ports c.requires.running c.requires.able x e _ _ _ (ap (λ o. or_trip o (by_engine 1 0) (λ v. goes (wrote (running s) c.in-Divide.a v ∷ waiting s) m.memory.bytes ports)) (sym given)) refl c.trip.ensures;
-      rule = refl;
       base = refl;
     }
 
@@ -563,7 +555,7 @@ returns-in-Some-load g c =
     let m = c.args.self.now in
     let s = m.stack in
     let host = c.args.host.now in
-    let rule = g.H.Host.rule host in
+    let rule = g.H.Host.rule (g.H.Host.base host) in
     let ports = g.H.Host.ports host in
     let x : Instr = Load c.in-Load.width c.in-Load.a c.in-Load.b c.in-Load.n in
     let e = standing bs s c.routine-routine.result c.pc-pc.result x (sym (ap Some c.in-Load.is) ∙ c.in-Some.ensures) c.routine-routine.ensures c.pc-pc.ensures in
@@ -571,7 +563,6 @@ returns-in-Some-load g c =
     c.in-Some-load.ensures ∙ ap (λ a. loading m.memory.bytes a c.in-Load.width) c.address-address.ensures in
     record {
       step = went bs rule m ports c.requires.running c.requires.able x e _ _ _ _ _ (ap (λ o. or_trip o (by_engine 2 (value (running s) c.in-Load.b + c.in-Load.n)) (λ v. goes (wrote (running s) c.in-Load.a v ∷ waiting s) m.memory.bytes ports)) (sym given)) c.write-in-Some-load.ensures.running c.write-in-Some-load.ensures.waiting refl refl;
-      rule = refl;
       base = refl;
     }
 
@@ -582,7 +573,7 @@ returns-in-None-load g c =
     let m = c.args.self.now in
     let s = m.stack in
     let host = c.args.host.now in
-    let rule = g.H.Host.rule host in
+    let rule = g.H.Host.rule (g.H.Host.base host) in
     let ports = g.H.Host.ports host in
     let x : Instr = Load c.in-Load.width c.in-Load.a c.in-Load.b c.in-Load.n in
     let e = standing bs s c.routine-routine.result c.pc-pc.result x (sym (ap Some c.in-Load.is) ∙ c.in-Some.ensures) c.routine-routine.ensures c.pc-pc.ensures in
@@ -593,7 +584,6 @@ returns-in-None-load g c =
     record {
       step = tripped_here bs rule m ports c.requires.running c.requires.able x e _ _ _ (ap (λ o. or_trip o (by_engine 2 (value (running s) c.in-Load.b + c.in-Load.n)) (λ v. goes (wrote (running s) c.in-Load.a v ∷ waiting s) m.memory.bytes ports)) (sym given)) refl
           (λ ps. left ps ∙ ap (λ a. after (world_of m ps) (running s) (trips (by_engine 2 a))) c.address-address.ensures);
-      rule = refl;
       base = refl;
     }
 
@@ -604,7 +594,7 @@ returns-then-store g c =
     let m = c.args.self.now in
     let s = m.stack in
     let host = c.args.host.now in
-    let rule = g.H.Host.rule host in
+    let rule = g.H.Host.rule (g.H.Host.base host) in
     let ports = g.H.Host.ports host in
     let x : Instr = Store c.in-Store.width c.in-Store.a c.in-Store.b c.in-Store.n in
     let e = standing bs s c.routine-routine.result c.pc-pc.result x (sym (ap Some c.in-Store.is) ∙ c.in-Some.ensures) c.routine-routine.ensures c.pc-pc.ensures in
@@ -617,7 +607,6 @@ returns-then-store g c =
     let fit : fits at w ≡ true = sym (c.if-store.ensures.answer ∙ ap (λ a. fits a w) address) in
     record {
       step = went bs rule m ports c.requires.running c.requires.able x e _ _ _ _ _ (cond-true (fits at w) _ _ fit) c.skip.ensures.running c.skip.ensures.waiting (stored-as ∙ cond-true (fits at w) _ _ fit) refl;
-      rule = refl;
       base = refl;
     }
 
@@ -628,7 +617,7 @@ returns-else-store g c =
     let m = c.args.self.now in
     let s = m.stack in
     let host = c.args.host.now in
-    let rule = g.H.Host.rule host in
+    let rule = g.H.Host.rule (g.H.Host.base host) in
     let ports = g.H.Host.ports host in
     let x : Instr = Store c.in-Store.width c.in-Store.a c.in-Store.b c.in-Store.n in
     let e = standing bs s c.routine-routine.result c.pc-pc.result x (sym (ap Some c.in-Store.is) ∙ c.in-Some.ensures) c.routine-routine.ensures c.pc-pc.ensures in
@@ -644,7 +633,6 @@ returns-else-store g c =
       step = tripped_here bs rule m ports c.requires.running c.requires.able x e c.trip-else-store.new.self _ _ (cond-false (fits at w) _ _ pass) refl
           (λ ps. c.trip-else-store.ensures ps
           ∙ (λ i. world (tripped (trip_at (by_engine 2 (address i)) (running s))) (levels_in m.state s) (kept i) ps));
-      rule = refl;
       base = refl;
     }
 
@@ -655,13 +643,12 @@ returns-in-Bal g c =
     let m = c.args.self.now in
     let s = m.stack in
     let host = c.args.host.now in
-    let rule = g.H.Host.rule host in
+    let rule = g.H.Host.rule (g.H.Host.base host) in
     let ports = g.H.Host.ports host in
     let x : Instr = Bal c.in-Bal.n in
     let e = standing bs s c.routine-routine.result c.pc-pc.result x (sym (ap Some c.in-Bal.is) ∙ c.in-Some.ensures) c.routine-routine.ensures c.pc-pc.ensures in
     record {
       step = went bs rule m ports c.requires.running c.requires.able x e _ _ _ _ _ refl c.jump.ensures.running c.jump.ensures.waiting refl refl;
-      rule = refl;
       base = refl;
     }
 
@@ -672,7 +659,7 @@ returns-then-passes g c =
     let m = c.args.self.now in
     let s = m.stack in
     let host = c.args.host.now in
-    let rule = g.H.Host.rule host in
+    let rule = g.H.Host.rule (g.H.Host.base host) in
     let ports = g.H.Host.ports host in
     let x : Instr = Branch c.in-Branch.test c.in-Branch.a c.in-Branch.b c.in-Branch.n in
     let e = standing bs s c.routine-routine.result c.pc-pc.result x (sym (ap Some c.in-Branch.is) ∙ c.in-Some.ensures) c.routine-routine.ensures c.pc-pc.ensures in
@@ -680,7 +667,6 @@ returns-then-passes g c =
     c.if-passes.ensures ∙ (λ i. passing c.in-Branch.test (c.read-in-Branch.ensures i) (c.read-in-Branch-2.ensures i)) in
     record {
       step = went bs rule m ports c.requires.running c.requires.able x e _ _ _ _ _ (ap (λ b. goes (cond b (jumped (running s) c.in-Branch.n) (onward (running s) (running s).registers) ∷ waiting s) m.memory.bytes ports) (sym t)) c.jump-then-passes.ensures.running c.jump-then-passes.ensures.waiting refl refl;
-      rule = refl;
       base = refl;
     }
 
@@ -691,7 +677,7 @@ returns-else-passes g c =
     let m = c.args.self.now in
     let s = m.stack in
     let host = c.args.host.now in
-    let rule = g.H.Host.rule host in
+    let rule = g.H.Host.rule (g.H.Host.base host) in
     let ports = g.H.Host.ports host in
     let x : Instr = Branch c.in-Branch.test c.in-Branch.a c.in-Branch.b c.in-Branch.n in
     let e = standing bs s c.routine-routine.result c.pc-pc.result x (sym (ap Some c.in-Branch.is) ∙ c.in-Some.ensures) c.routine-routine.ensures c.pc-pc.ensures in
@@ -699,7 +685,6 @@ returns-else-passes g c =
     c.if-passes.ensures ∙ (λ i. passing c.in-Branch.test (c.read-in-Branch.ensures i) (c.read-in-Branch-2.ensures i)) in
     record {
       step = went bs rule m ports c.requires.running c.requires.able x e _ _ _ _ _ (ap (λ b. goes (cond b (jumped (running s) c.in-Branch.n) (onward (running s) (running s).registers) ∷ waiting s) m.memory.bytes ports) (sym t)) c.skip-else-passes.ensures.running c.skip-else-passes.ensures.waiting refl refl;
-      rule = refl;
       base = refl;
     }
 
@@ -710,13 +695,12 @@ returns-in-Call g c =
     let m = c.args.self.now in
     let s = m.stack in
     let host = c.args.host.now in
-    let rule = g.H.Host.rule host in
+    let rule = g.H.Host.rule (g.H.Host.base host) in
     let ports = g.H.Host.ports host in
     let x : Instr = Call c.in-Call.a c.in-Call.b c.in-Call.n in
     let e = standing bs s c.routine-routine.result c.pc-pc.result x (sym (ap Some c.in-Call.is) ∙ c.in-Some.ensures) c.routine-routine.ensures c.pc-pc.ensures in
     record {
       step = base bs rule m ports c.requires.running c.requires.able x _ e refl ∙ ap Some (sym (c.call.ensures rule ports));
-      rule = refl;
       base = refl;
     }
 
@@ -727,13 +711,12 @@ returns-in-Ret g c =
     let m = c.args.self.now in
     let s = m.stack in
     let host = c.args.host.now in
-    let rule = g.H.Host.rule host in
+    let rule = g.H.Host.rule (g.H.Host.base host) in
     let ports = g.H.Host.ports host in
     let x : Instr = Ret c.in-Ret.a in
     let e = standing bs s c.routine-routine.result c.pc-pc.result x (sym (ap Some c.in-Ret.is) ∙ c.in-Some.ensures) c.routine-routine.ensures c.pc-pc.ensures in
     record {
       step = base bs rule m ports c.requires.running c.requires.able x _ e refl ∙ ap Some (sym (c.give_back.ensures rule ports));
-      rule = refl;
       base = refl;
     }
 
@@ -744,13 +727,12 @@ returns-in-Ok g c =
     let m = c.args.self.now in
     let s = m.stack in
     let host = c.args.host.now in
-    let rule = g.H.Host.rule host in
+    let rule = g.H.Host.rule (g.H.Host.base host) in
     let ports = g.H.Host.ports host in
     let x : Instr = Get c.in-Get.a c.in-Get.c in
     let e = standing bs s c.routine-routine.result c.pc-pc.result x (sym (ap Some c.in-Get.is) ∙ c.in-Some.ensures) c.routine-routine.ensures c.pc-pc.ensures in
     record {
       step = went bs rule m ports c.requires.running c.requires.able x e _ _ _ _ _ (ap (λ r. or_refused r c.in-Get.c (λ v. goes (wrote (running s) c.in-Get.a v ∷ waiting s) m.memory.bytes ports)) (sym c.in-Ok.ensures.answer)) c.write-in-Ok.ensures.running c.write-in-Ok.ensures.waiting refl refl;
-      rule = refl;
       base = refl;
     }
 
@@ -761,13 +743,12 @@ returns-in-Err g c =
     let m = c.args.self.now in
     let s = m.stack in
     let host = c.args.host.now in
-    let rule = g.H.Host.rule host in
+    let rule = g.H.Host.rule (g.H.Host.base host) in
     let ports = g.H.Host.ports host in
     let x : Instr = Get c.in-Get.a c.in-Get.c in
     let e = standing bs s c.routine-routine.result c.pc-pc.result x (sym (ap Some c.in-Get.is) ∙ c.in-Some.ensures) c.routine-routine.ensures c.pc-pc.ensures in
     record {
       step = tripped_here bs rule m ports c.requires.running c.requires.able x e _ _ _ (ap (λ r. or_refused r c.in-Get.c (λ v. goes (wrote (running s) c.in-Get.a v ∷ waiting s) m.memory.bytes ports)) (sym c.in-Err.ensures.answer)) refl c.trip-in-Err.ensures;
-      rule = refl;
       base = refl;
     }
 
@@ -778,7 +759,7 @@ returns-in-Ok-write g c =
     let m = c.args.self.now in
     let s = m.stack in
     let host = c.args.host.now in
-    let rule = g.H.Host.rule host in
+    let rule = g.H.Host.rule (g.H.Host.base host) in
     let ports = g.H.Host.ports host in
     let x : Instr = Put c.in-Put.b c.in-Put.c in
     let e = standing bs s c.routine-routine.result c.pc-pc.result x (sym (ap Some c.in-Put.is) ∙ c.in-Some.ensures) c.routine-routine.ensures c.pc-pc.ensures in
@@ -789,7 +770,6 @@ returns-in-Ok-write g c =
     c.in-Ok-write.ensures.ports ∙ ap (written ports c.in-Put.c) c.read-in-Put.ensures in
     record {
       step = went bs rule m ports c.requires.running c.requires.able x e _ _ _ _ _ (ap (λ r. or_refused r c.in-Put.c (λ _. goes (onward (running s) (running s).registers ∷ waiting s) m.memory.bytes (written ports c.in-Put.c (value (running s) c.in-Put.b)))) (sym said) ∙ ap (goes (onward (running s) (running s).registers ∷ waiting s) m.memory.bytes) (sym left)) c.skip-in-Ok-write.ensures.running c.skip-in-Ok-write.ensures.waiting refl refl;
-      rule = c.in-Ok-write.ensures.rule;
       base = c.in-Ok-write.ensures.base;
     }
 
@@ -800,7 +780,7 @@ returns-in-Err-write g c =
     let m = c.args.self.now in
     let s = m.stack in
     let host = c.args.host.now in
-    let rule = g.H.Host.rule host in
+    let rule = g.H.Host.rule (g.H.Host.base host) in
     let ports = g.H.Host.ports host in
     let x : Instr = Put c.in-Put.b c.in-Put.c in
     let e = standing bs s c.routine-routine.result c.pc-pc.result x (sym (ap Some c.in-Put.is) ∙ c.in-Some.ensures) c.routine-routine.ensures c.pc-pc.ensures in
@@ -811,7 +791,6 @@ returns-in-Err-write g c =
     c.in-Err-write.ensures.ports ∙ ap (written ports c.in-Put.c) c.read-in-Put.ensures in
     record {
       step = tripped_here bs rule m ports c.requires.running c.requires.able x e _ _ _ (ap (λ r. or_refused r c.in-Put.c (λ _. goes (onward (running s) (running s).registers ∷ waiting s) m.memory.bytes (written ports c.in-Put.c (value (running s) c.in-Put.b)))) (sym said)) (left ∙ refused_written ports c.in-Put.c (value (running s) c.in-Put.b) _ (sym said)) c.trip-in-Err-write.ensures;
-      rule = c.in-Err-write.ensures.rule;
       base = c.in-Err-write.ensures.base;
     }
 
@@ -822,12 +801,11 @@ returns-in-Tick g c =
     let m = c.args.self.now in
     let s = m.stack in
     let host = c.args.host.now in
-    let rule = g.H.Host.rule host in
+    let rule = g.H.Host.rule (g.H.Host.base host) in
     let ports = g.H.Host.ports host in
     let x : Instr = Tick in
     let e = standing bs s c.routine-routine.result c.pc-pc.result x (sym (ap Some c.in-Tick.is) ∙ c.in-Some.ensures) c.routine-routine.ensures c.pc-pc.ensures in
     record {
       step = went bs rule m ports c.requires.running c.requires.able x e _ _ _ _ _ (ap (goes (onward (running s) (running s).registers ∷ waiting s) m.memory.bytes) (sym c.tick.ensures.ports)) c.skip-in-Tick.ensures.running c.skip-in-Tick.ensures.waiting refl refl;
-      rule = c.tick.ensures.rule;
       base = c.tick.ensures.base;
     }
