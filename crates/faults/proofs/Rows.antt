@@ -2,12 +2,13 @@
 use Rattle.std.proofs.Common.{◌≡◌, ℕ, suc, ◌+◌, ◌-◌, ◌<◌, ◌≤◌, true, false, eqb, List, [], ◌∷◌, ◌++◌, map, length, get_or, take, drop, set, sym, refl, ap, ◌∙◌, arith}
 use Rattle.std.proofs.Math.Seq.{set-append_seam}
 use Rattle.std.proofs.lemmas.List.{get_or-map, map-set, take-map, drop-map, map-append, take-append-le, drop-take, length-drop}
+use Rattle.std.specs.Int.{from_bool}
 use Rattle.faults.specs.declared.fault.Fault.{Fault}
-use Rattle.faults.specs.Faults.{no_fault, values_of, marked, is_marked, mark_of}
+use Rattle.faults.specs.Faults.{no_fault, values_of, marked, is_marked}
 
 -- the mark is what the flag says
 pub mark_is : (fault : Fault) → is_marked (values_of fault) ≡ fault.marked
-mark_is fault = elim fault.marked as (λ b. eqb (mark_of b) 1 ≡ b) [ true ↦ refl | false ↦ refl ]
+mark_is fault = elim fault.marked as (λ b. eqb (from_bool b) 1 ≡ b) [ true ↦ refl | false ↦ refl ]
 
 -- row i with its flag set
 pub row_marked : (rows : List Fault) (i : ℕ) (d : Fault)

@@ -1,5 +1,6 @@
 -- The six numbers of a fault, by which every promise speaks of it.
-use Rattle.std.specs.Prelude.{ℕ, Bool, true, false, ◌==◌}
+use Rattle.std.specs.Prelude.{ℕ, Bool, ◌==◌}
+use Rattle.std.specs.Int.{from_bool}
 use Rattle.faults.specs.declared.fault.Fault.{Fault}
 use Rattle.faults.specs.Causes.{Trip, trip_of}
 
@@ -47,9 +48,5 @@ is_marked fault = fault.mark == 1
 abbrev pub no_fault : FaultValues
 no_fault = record { cause = 0; layer = 0; routine = 0; instruction = 0; detail = 0; mark = 0 }
 
-abbrev pub mark_of : Bool → ℕ
-mark_of true = 1
-mark_of false = 0
-
 abbrev pub values_of : Fault → FaultValues
-values_of fault = with_mark (trip_of fault.cause fault.place) (mark_of fault.marked)
+values_of fault = with_mark (trip_of fault.cause fault.place) (from_bool fault.marked)

@@ -1,5 +1,6 @@
 -- What a fault list shows.
-use Rattle.std.specs.Prelude.{List, take, Some, None, Option}
+use Rattle.std.specs.Prelude.{List, take, Option}
+use Rattle.std.specs.Option.{option_map}
 use Rattle.faults.specs.declared.fault.Fault.{Fault}
 use Rattle.faults.specs.declared.list.FaultList.{FaultList}
 use Rattle.faults.specs.Faults.{FaultValues, values_of}
@@ -11,5 +12,4 @@ faults_of list = take list.count (rows_of list.table)
 
 -- an answer, with its fault by the six numbers
 abbrev pub shown : Option Fault → Option FaultValues
-shown (Some fault) = Some (values_of fault)
-shown None = None
+shown answer = option_map values_of answer

@@ -1,11 +1,11 @@
 -- What stays over ticks and refused writes, by what every host proves.
-use Rattle.std.proofs.Common.{◌≡◌, ℕ, zero, suc, ltb, List, [], ◌∷◌, length, get_or, set, Err, sym, ap, ◌∙◌, inl, inr}
+use Rattle.std.proofs.Common.{◌≡◌, ℕ, zero, suc, ltb, List, [], ◌∷◌, length, get_or, set, Ok, Err, sym, ap, ◌∙◌, inl, inr, arith}
 use Rattle.std.proofs.lemmas.List.{set-get_or, set_past}
-use Rattle.std.proofs.lemmas.Bool.{cond-true, lt-ltb, cases_lt}
+use Rattle.std.proofs.lemmas.Bool.{cond-true, cond-false, lt-ltb, le-ltb, cases_lt}
 use Rattle.std.specs.List.{AllZip}
 use Rattle.refusal.specs.Values.{Values}
 use Rattle.host.specs.declared.port.Port.{Port}
-use Rattle.host.specs.Ports.{blank, with_value, ordering, writing, written, if_ok}
+use Rattle.host.specs.Ports.{blank, value_at, reading, with_value, ordering, writing, written, if_ok}
 use Rattle.host.specs.Lawful.{Sensed, same_senses}
 use Rattle.host.specs.Response.{ticked}
 
@@ -35,4 +35,11 @@ refused_written ports p v e refused = elim (cases_lt p (length ports)) [
       let asked : ordering (get_or ports p blank) v ≡ Err e = sym (cond-true (ltb p (length ports)) _ _ (lt-ltb p (length ports) h)) ∙ refused in
       ap (λ r. set ports p (if_ok r (with_value (get_or ports p blank) v) (get_or ports p blank))) asked ∙ set-get_or ports p blank
   | inr h ↦ set_past ports p _ h
+]
+
+-- a port that was read is read again, where there are as many ports
+pub read_again : (before after : List Port) (p x : ℕ) → length after ≡ length before → Ok x ≡ reading before p → reading after p ≡ Ok (value_at after p)
+read_again before after p x same found = elim (cases_lt p (length before)) [
+  | inl h ↦ cond-true (ltb p (length after)) _ _ (lt-ltb p (length after) (omega arith))
+  | inr h ↦ let past = found ∙ cond-false (ltb p (length before)) (Ok (value_at before p)) _ (le-ltb p (length before) h) in absurd (cc)
 ]

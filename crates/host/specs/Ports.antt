@@ -1,5 +1,5 @@
 -- Ports, and what a read, a write and a rest make of them.
-use Rattle.std.specs.Prelude.{◌≡◌, ◌≤◌, ℕ, Bool, cond, ◌&&◌, List, map, length, Some, None, Ok, Err, Option, Result, MatchResult, nat_le, nat_lt, slice_index_or, slice_set}
+use Rattle.std.specs.Prelude.{◌≡◌, ◌≤◌, ℕ, Bool, cond, ◌&&◌, List, map, length, None, Ok, Err, Result, MatchResult, nat_le, nat_lt, slice_index_or, slice_set, unwrap_or}
 use Rattle.refusal.specs.Values.{Values}
 use Rattle.host.specs.declared.port.Flag.{Flag}
 use Rattle.host.specs.declared.port.Flag.TheVariants.{Order, Sense}
@@ -58,13 +58,9 @@ writing ports p v = cond (nat_lt p (length ports)) (ordering (slice_index_or por
 abbrev pub written : List Port → ℕ → ℕ → List Port
 written ports p v = slice_set ports p (ordered (slice_index_or ports p blank) v)
 
--- the value of a port at rest, where the value was v
-abbrev pub rest_value : Option ℕ → ℕ → ℕ
-rest_value (Some r) v = r
-rest_value None v = v
-
+-- a port at rest
 abbrev pub at_rest : Port → Port
-at_rest port = with_value port (rest_value port.rest port.value)
+at_rest port = with_value port (unwrap_or port.rest port.value)
 
 -- what a rest makes of the ports
 abbrev pub rested : List Port → List Port

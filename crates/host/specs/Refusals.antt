@@ -1,5 +1,6 @@
 -- The numbers of a host's refusals, by which every promise speaks of them.
-use Rattle.std.specs.Prelude.{ℕ, Ok, Err, Result}
+use Rattle.std.specs.Prelude.{ℕ, Result}
+use Rattle.std.specs.Result.{result_map_both}
 use Rattle.refusal.specs.Values.{Values}
 use Rattle.host.specs.declared.port.HostRefusal.{HostRefusal}
 use Rattle.host.specs.declared.port.HostRefusal.TheVariants.{NoPort, SensePort, OutOfLimits}
@@ -15,5 +16,4 @@ values_of OutOfLimits = by_host 6
 
 -- an answer, with its refusal by these numbers
 abbrev pub told : {X : Type 0} → Result X HostRefusal → Result X Values
-told (Ok x) = Ok x
-told (Err e) = Err (values_of e)
+told answer = result_map_both (λ x. x) values_of answer

@@ -1,5 +1,6 @@
 -- What is seen of a host some ticks after an order, by its tick rule and its ports.
-use Rattle.std.specs.Prelude.{ℕ, zero, suc, List, Ok, Err, Result}
+use Rattle.std.specs.Prelude.{ℕ, zero, suc, List, Ok, Result}
+use Rattle.std.specs.Result.{result_and}
 use Rattle.refusal.specs.Values.{Values}
 use Rattle.host.specs.declared.port.Port.{Port}
 use Rattle.host.specs.declared.response.Trial.{Trial}
@@ -10,11 +11,6 @@ abbrev pub ticked : ℕ → (List Port → List Port) → List Port → List Por
 ticked zero rule ports = ports
 ticked (suc n) rule ports = rule (ticked n rule ports)
 
--- the second answer, where the first is no refusal
-abbrev pub and_then : {X Y : Type 0} → Result X Values → Result Y Values → Result Y Values
-and_then (Ok x) y = y
-and_then (Err e) y = Err e
-
 -- the ports after the order of a trial, and its ticks
 abbrev pub tried : (List Port → List Port) → List Port → Trial → List Port
 tried rule ports trial = ticked trial.ticks rule (written ports trial.port trial.value)
@@ -22,7 +18,7 @@ tried rule ports trial = ticked trial.ticks rule (written ports trial.port trial
 -- what a trial answers: a refusal of the port shown, then of the order, and else what the port shows after the ticks
 abbrev pub responding : (List Port → List Port) → List Port → Trial → Result ℕ Values
 responding rule ports trial =
-    and_then (reading ports trial.shown) (and_then (writing ports trial.port trial.value) (Ok (value_at (tried rule ports trial) trial.shown)))
+    result_and (reading ports trial.shown) (result_and (writing ports trial.port trial.value) (Ok (value_at (tried rule ports trial) trial.shown)))
 
 -- and what the ports are then
 abbrev pub responded : (List Port → List Port) → List Port → Trial → List Port

@@ -79,8 +79,6 @@ impl Port {
     pub fn rest(&mut self)
         ensures { self.new ≡ at_rest self.old }
     {
-        if let Some(v) = self.rest {
-            self.value = v;
-        }
+        self.value = self.rest.unwrap_or(self.value);
     }
 }

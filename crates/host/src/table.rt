@@ -30,7 +30,8 @@ impl<'a> TableHost<'a> {
     }
 }
 
-// Gives each row that is a port its rest value.
+// Gives each row that is a port its rest value. It takes the slice itself: of a slice in a struct whose part is lent to a loop a
+// proof knows no element afterwards.
 fn rest_ports(rows: &mut [Port])
     ensures ports { take most_ports rows.new ≡ rested (take most_ports rows.old) }
     ensures past { drop most_ports rows.new ≡ drop most_ports rows.old }
@@ -41,7 +42,7 @@ fn rest_ports(rows: &mut [Port])
     }
 }
 
-impl<'a> Host for TableHost<'a> {
+impl Host for TableHost<'_> {
     ghost Base = { GName × List Row };
 
     ghost base = { table_base };
@@ -59,6 +60,7 @@ impl<'a> Host for TableHost<'a> {
         if p >= self.ports().len() {
             return Err(HostRefusal::NoPort);
         }
+        // By index: once a row that `get_mut` lent is given back, a proof knows no element of the rows.
         self.rows[p].order(v)
     }
 
