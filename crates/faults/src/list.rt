@@ -7,7 +7,7 @@ use crate::table::FaultTable;
 mod changes;
 mod reads;
 
-/// The newest sixteen faults, the oldest first.
+/// The newest sixteen faults, the oldest first: a table and how many of its rows are used, as nothing on the drive allocates.
 #[derive(Drop)]
 pub struct FaultList {
     table: FaultTable,

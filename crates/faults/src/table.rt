@@ -76,7 +76,7 @@ impl FaultTable {
         let gone = self.first(count).partition_point(|fault| fault.marked);
         let left = count - gone;
         self.rows.rotate_left(gone);
-        // By index: the table lends one record at a time, in a method of its own.
+        // By index: it is a rule that the table lends one record at a time, in a method of its own.
         for i in 0..left {
             self.mark(i);
         }

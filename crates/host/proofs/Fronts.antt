@@ -1,19 +1,9 @@
 -- Reads and writes of the ports that are the first n of some rows.
-use Rattle.std.proofs.Common.{◌≡◌, ℕ, ◌<◌, ◌≤◌, ltb, List, length, get_or, take, set, Err, sym, ap, ◌∙◌, arith, length-take, get_or-take}
+use Rattle.std.proofs.Common.{◌≡◌, ℕ, ◌<◌, ltb, List, length, get_or, take, set, sym, ap, ◌∙◌, arith, length-take, get_or-take}
 use lib.Seq.{take-set-lt}
-use Rattle.std.proofs.lemmas.List.{set_past}
-use Rattle.std.proofs.lemmas.Bool.{cond-true, cond-false, lt-ltb, le-ltb}
+use Rattle.std.proofs.lemmas.Bool.{cond-true, lt-ltb}
 use Rattle.host.specs.declared.port.Port.{Port}
-use Rattle.host.specs.Refusals.{by_host}
 use Rattle.host.specs.Ports.{blank, ordering, ordered, writing, written}
-
--- past the last port
-module _ (ports : List Port) (p : ℕ) (h : length ports ≤ p) where
-  pub write_past : (v : ℕ) → writing ports p v ≡ Err (by_host 4)
-  write_past v = cond-false (ltb p (length ports)) _ _ (le-ltb p (length ports) h)
-
-  pub written_past : (v : ℕ) → written ports p v ≡ ports
-  written_past v = set_past ports p _ h
 
 module _ (n : ℕ) (rows : List Port) (p : ℕ) (h : p < length (take n rows)) where
   pub inside : p < n
