@@ -1,6 +1,6 @@
 pub mod Copies
-pub mod Firsts
 pub mod Handing
+pub mod Items
 pub mod Legal
 pub mod Runs
 pub mod Soundness

@@ -1,5 +1,6 @@
 -- What a machine shows of itself.
-use Rattle.std.specs.Prelude.{ℕ, cond, List, [], ◌∷◌, length, Some, None, Option, nat_lt, slice_index}
+use Rattle.std.specs.Prelude.{ℕ, cond, List, [], ◌∷◌, length, Some, None, Option, nat_lt}
+use Rattle.std.specs.List.{slice_get}
 use Rattle.machine.specs.Level.{Level, value}
 
 -- register k of the running routine, if there is one
@@ -9,4 +10,4 @@ register_at (l ∷ ls) k = cond (nat_lt k (length l.registers)) (Some (value l k
 
 -- byte i of memory, if there is one
 abbrev pub byte_at : List ℕ → ℕ → Option ℕ
-byte_at memory i = cond (nat_lt i (length memory)) (Some (slice_index memory i)) None
+byte_at memory i = slice_get memory i

@@ -28,14 +28,12 @@ impl Memory {
         requires { at + bytes_of width ≤ 4096 }
         ensures { result ≡ loaded self.now.bytes at width }
     {
+        let bytes = &self.bytes;
         match width {
-            Width::One => self.bytes[at] as u32,
-            Width::Two => self.bytes[at] as u32 + 256 * self.bytes[at + 1] as u32,
+            Width::One => u32::from(bytes[at]),
+            Width::Two => u32::from(u16::from_le_bytes([bytes[at], bytes[at + 1]])),
             Width::Four => {
-                self.bytes[at] as u32
-                    + 256 * self.bytes[at + 1] as u32
-                    + 65536 * self.bytes[at + 2] as u32
-                    + 16777216 * self.bytes[at + 3] as u32
+                u32::from_le_bytes([bytes[at], bytes[at + 1], bytes[at + 2], bytes[at + 3]])
             }
         }
     }

@@ -20,9 +20,7 @@ impl Memory {
         ensures { result.bytes ≡ image.now ++ replicate (4096 - length image.now) 0 }
     {
         let mut bytes = [0; BYTES];
-        for k in 0..image.len() {
-            bytes[k] = image[k];
-        }
+        bytes[..image.len()].copy_from_slice(image);
         Memory { bytes }
     }
 }

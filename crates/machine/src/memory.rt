@@ -1,5 +1,3 @@
-ghost use Rattle.std.specs.Prelude.{◌≡◌, length};
-
 /// How many bytes of memory there are.
 pub const BYTES: usize = 4_096;
 
@@ -7,5 +5,4 @@ pub const BYTES: usize = 4_096;
 #[derive(Clone, Copy)]
 pub struct Memory {
     pub(crate) bytes: [u8; 4096],
-    ghost whole: { length bytes ≡ 4096 },
 }

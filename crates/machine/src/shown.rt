@@ -5,7 +5,6 @@ ghost use Rattle.machine.specs.Shown.{register_at, byte_at};
 ghost use Rattle.machine.specs.View.{phase_of, world_of};
 
 use crate::machine::{Machine, State};
-use crate::memory::BYTES;
 
 impl Machine {
     /// Whether it runs.
@@ -22,8 +21,7 @@ impl Machine {
     {
         match self.state {
             State::Ended => None,
-            State::Running => self.stack.register(k),
-            State::Tripped { .. } => self.stack.register(k),
+            State::Running | State::Tripped { .. } => self.stack.register(k),
         }
     }
 
@@ -31,9 +29,6 @@ impl Machine {
     pub fn byte(&self, i: usize) -> Option<u8>
         ensures { (ports : List Port) → result ≡ byte_at (world_of self.now ports).memory i }
     {
-        if i >= BYTES {
-            return None;
-        }
-        Some(self.memory.bytes[i])
+        self.memory.bytes.get(i).copied()
     }
 }

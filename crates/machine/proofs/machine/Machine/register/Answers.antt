@@ -1,4 +1,5 @@
-use Rattle.std.proofs.Common.{sym, ap, ◌∙◌}
+use Rattle.std.proofs.Common.{sym, ap, inl, inr, ◌∙◌}
+use Rattle.machine.specs.declared.machine.State.{State}
 use Rattle.machine.specs.Shown.{register_at}
 use Rattle.machine.specs.View.{world_of, levels_in}
 use Rattle.machine.proofs.machine.Machine.register.Goals as goal
@@ -10,9 +11,8 @@ returns-in-Ended c = λ ports. ap (λ state. register_at (levels_in state c.args
 pub returns-in-Running : goal.returns-in-Running
 unfolding world_of
 returns-in-Running c = λ ports.
-    c.register.ensures ∙ ap (λ state. register_at (levels_in state c.args.self.now.stack) c.args.k) (sym c.in-Running.is)
-
-pub returns-in-Tripped : goal.returns-in-Tripped
-unfolding world_of
-returns-in-Tripped c = λ ports.
-    c.register-in-Tripped.ensures ∙ ap (λ state. register_at (levels_in state c.args.self.now.stack) c.args.k) (sym c.in-Tripped.is)
+    let shown = λ (state : State). register_at (levels_in state c.args.self.now.stack) c.args.k in
+    elim c.in-Running.is [
+      | inl is ↦ c.register.ensures ∙ ap shown (sym is)
+      | inr (cause, place, is) ↦ c.register.ensures ∙ ap shown (sym is)
+    ]
