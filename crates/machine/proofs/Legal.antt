@@ -1,21 +1,27 @@
 -- What it asks of registers that an instruction has a rule there.
-use Rattle.std.proofs.Common.{◌≡◌, ℕ, ◌+◌, ◌<◌, ◌≤◌, Bool, true, false, cond, not, ◌&&◌, ◌||◌, eqb, ltb, List, [], ◌∷◌, length, Some, None, Option, sym, refl, ap, ◌∙◌, arith}
+use Rattle.std.proofs.Common.{◌≡◌, ℕ, ◌+◌, ◌<◌, ◌≤◌, Bool, true, false, cond, not, ◌&&◌, ◌||◌, eqb, ltb, List, [], ◌∷◌, length, get_or, Some, None, Option, sym, refl, ap, ◌∙◌, subst, arith}
 use Rattle.std.proofs.lemmas.List.{length-map}
 use Rattle.std.proofs.lemmas.Bool.{and_parts, ltb-true, leb-true, eqb-true, ne_eqb, false≢true}
 use Rattle.isa.specs.declared.access.Access.{Access}
 use Rattle.isa.specs.declared.instr.Instr.{Instr}
 use Rattle.isa.specs.declared.instr.Instr.TheVariants.{New, Def, Kill, Mov, Swap, Calc, Divide, Load, Store, Bal, Branch, Call, Ret, Get, Put, Tick}
-use Rattle.module.specs.Laid.{Laid}
+use Rattle.module.specs.declared.checked.Checked.{Checked}
+use Rattle.module.specs.Accepted.{accepted}
+use Rattle.module.specs.Told.{bytes_of}
 use Rattle.module.specs.Layout.{routines, count, instr}
 use Rattle.module.specs.Places.{inside, instr_at}
+use Rattle.module.proofs.Accepts.{accepts_laid}
 use Rattle.module.specs.Rules.{stacks, calls, access_in, both, fits, registers, constants}
 use Rattle.machine.specs.declared.frame.Register.{Register}
-use Rattle.machine.specs.Level.{Level}
-use Rattle.machine.specs.Nested.{first_of}
+use Rattle.machine.specs.Level.{Level, level_of, is_constant}
+use Rattle.machine.specs.declared.frame.Frame.{Frame}
+use Rattle.machine.specs.declared.machine.Machine.{Machine}
+use Rattle.machine.specs.Nested.{running, waiting, first_of}
+use Rattle.machine.proofs.Frames.{running_is}
 use Rattle.machine.specs.World.{shape_of, allowed, allowed_at, here, calls_routine, awaited, is_return, able}
 
 pub length-shape : (rs : List Register) → length (shape_of rs) ≡ length rs
-length-shape rs = length-map rs (λ x. x.constant)
+length-shape rs = length-map rs is_constant
 
 -- the spans of registers that are read and written lie below the depth
 pub record Fit (access : Access) (depth : ℕ) : Type 0 where
@@ -24,14 +30,13 @@ pub record Fit (access : Access) (depth : ℕ) : Type 0 where
   pub write : access.writes.0.first + access.writes.0.len ≤ depth
   pub write2 : access.writes.1.first + access.writes.1.len ≤ depth
 
--- what a rule asks of an instruction x of routine r at registers of a shape
-pub record Legal (bs : List ℕ) (r : ℕ) (x : Instr) (s : List Bool) : Type 0 where
-  pub stacked : stacks (length s) x ≡ true
+-- what a rule asks of an instruction x of routine r at so many registers
+pub record Legal (bs : List ℕ) (r : ℕ) (x : Instr) (depth : ℕ) : Type 0 where
+  pub stacked : stacks depth x ≡ true
   pub called : calls bs x ≡ true
-  pub fit : Fit (access_in bs r x) (length s)
-  pub spared : constants bs r s x ≡ true
+  pub fit : Fit (access_in bs r x) depth
 
-pub legal : (bs : List ℕ) (r : ℕ) (x : Instr) (s : List Bool) → allowed bs r x s ≡ true → Legal bs r x s
+legal : (bs : List ℕ) (r : ℕ) (x : Instr) (s : List Bool) → allowed bs r x s ≡ true → Legal bs r x (length s)
 unfolding allowed
 legal bs r x s h =
     let d = length s in
@@ -51,15 +56,17 @@ legal bs r x s h =
         write = leb-true _ d writes.0;
         write2 = leb-true _ d writes.1;
       };
-      spared = t.1;
     }
 
--- a routine that stands at the instruction x, which has a rule there
+-- A routine that stands at the instruction x, which has a rule there. In a module that is laid out as the format says, places
+-- have small numbers.
 pub record Ready (bs : List ℕ) (l : Level) (x : Instr) : Type 0 where
   pub stands : here bs l ≡ Some x
-  pub legal : Legal bs l.routine x (shape_of l.registers)
+  pub legal : Legal bs l.routine x (length l.registers)
   pub routine : l.routine < routines bs
   pub place : l.pc < count bs l.routine
+  pub routine_low : l.routine < 65536
+  pub place_low : l.pc < 65536
 
 pub inside_parts : (bs : List ℕ) (r i : ℕ) → inside bs r i ≡ true → (r < routines bs) × (i < count bs r)
 unfolding inside
@@ -76,31 +83,43 @@ pub placed : (bs : List ℕ) (r i : ℕ) (x : Instr) → instr_at bs r i ≡ Som
 unfolding instr_at
 placed bs r i x e = inside_parts bs r i (some_if (inside bs r i) (instr bs r i) x e)
 
-ready_at : (bs : List ℕ) (l : Level) (x : Instr) → here bs l ≡ Some x → allowed_at bs l (here bs l) ≡ true → Ready bs l x
-unfolding allowed_at
-ready_at bs l x e h =
-    let p = placed bs l.routine l.pc x e in
-    record {
-      stands = e;
-      legal = legal bs l.routine x (shape_of l.registers) (sym (ap (allowed_at bs l) e) ∙ h);
-      routine = p.0;
-      place = p.1;
-    }
+module _ (bs : List ℕ) (ok : accepted bs ≡ true) where
+  ready_at : (l : Level) (x : Instr) → here bs l ≡ Some x → allowed_at bs l (here bs l) ≡ true → Ready bs l x
+  unfolding allowed_at
+  ready_at l x e h =
+      let p = placed bs l.routine l.pc x e in
+      let laid = accepts_laid bs ok in
+      let entry = laid.entry l.routine p.0 in
+      let rules = legal bs l.routine x (shape_of l.registers) (sym (ap (allowed_at bs l) e) ∙ h) in
+      record {
+        stands = e;
+        legal = subst (Legal bs l.routine x) (length-shape l.registers) rules;
+        routine = p.0;
+        place = p.1;
+        routine_low = omega (arith, p.0, laid.few);
+        place_low = omega (arith, p.1, entry.inside, laid.short);
+      }
 
-pub ready : (bs : List ℕ) (l : Level) (ls : List Level) (x : Instr) → able bs l ls ≡ true → here bs l ≡ Some x → Ready bs l x
-unfolding able
-ready bs l ls x h e = ready_at bs l x e (and_parts (allowed_at bs l (here bs l)) _ h).0
+  pub ready : (l : Level) (ls : List Level) (x y : Instr) → able bs l ls ≡ true → here bs l ≡ Some x → x ≡ y → Ready bs l y
+  unfolding able
+  ready l ls x y h e is = ready_at l y (e ∙ ap Some is) (and_parts (allowed_at bs l (here bs l)) _ h).0
+
+-- the running routine of a machine over a checked module
+pub stands_ready : (checked : Checked) (m : Machine) (x : Instr) {y : Instr} → able (bytes_of checked.opened) (running m.stack) (waiting m.stack) ≡ true →
+    here (bytes_of checked.opened) (running m.stack) ≡ Some x → x ≡ y → Ready (bytes_of checked.opened) (running m.stack) y
+stands_ready checked m x h e is = ready (bytes_of checked.opened) checked.keeps (running m.stack) (waiting m.stack) x _ h e is
+
+-- the same by its frame
+pub frame_ready : (checked : Checked) (m : Machine) (x : Instr) {y : Instr} (d : Frame) → length m.stack.frames ≡ 32 →
+    able (bytes_of checked.opened) (running m.stack) (waiting m.stack) ≡ true → here (bytes_of checked.opened) (running m.stack) ≡ Some x → x ≡ y →
+    Ready (bytes_of checked.opened) (level_of (get_or m.stack.frames m.stack.top.index d)) y
+frame_ready checked m x {y} d whole h e is =
+    subst (λ l. Ready (bytes_of checked.opened) l y) (running_is m.stack d whole) (stands_ready checked m x h e is)
 
 -- a routine that is able stands at an instruction
 pub stuck : (bs : List ℕ) (l : Level) (ls : List Level) → able bs l ls ≡ true → here bs l ≡ None → ⊥
 unfolding able allowed_at
 stuck bs l ls h e = false≢true (sym (ap (allowed_at bs l) e) ∙ (and_parts (allowed_at bs l (here bs l)) _ h).0)
-
--- in a module that is laid out as the format says, a place has small numbers
-pub low : (bs : List ℕ) (laid : Laid bs) (l : Level) (x : Instr) → Ready bs l x → (l.routine < 65536) × (l.pc < 65536)
-low bs laid l x r =
-    let entry = laid.entry l.routine r.routine in
-    (omega (arith, r.routine, laid.few), omega (arith, r.place, entry.inside, laid.short))
 
 -- the newest of the routines that wait stands at a call of routine r
 pub record Waits (bs : List ℕ) (r : ℕ) (ls : List Level) : Type 0 where
@@ -135,21 +154,22 @@ calls_it r (Some (Get a c)) h = absurd (false≢true h)
 calls_it r (Some (Put b c)) h = absurd (false≢true h)
 calls_it r (Some Tick) h = absurd (false≢true h)
 
-waits : (bs : List ℕ) (r : ℕ) (ls : List Level) → awaited bs r ls ≡ true → Waits bs r ls
-unfolding awaited
-waits bs r [] h = absurd (false≢true h)
-waits bs r (g ∷ gs) h =
-    let p = and_parts (allowed_at bs g (here bs g)) (calls_routine r (here bs g)) h in
-    let call = calls_it r (here bs g) p.1 in
-    record { a = call.a; b = call.b; some = omega arith; caller = ready_at bs g (Call call.a call.b r) call.is p.0 }
-
 or_true : (x y : Bool) → (x || y) ≡ true → x ≡ false → y ≡ true
 or_true x y h e = sym (ap (λ b. b || y) e) ∙ h
 
--- a routine other than 0 that returns is waited for
-pub returning : (bs : List ℕ) (l : Level) (ls : List Level) (a : ℕ) → able bs l ls ≡ true → here bs l ≡ Some (Ret a) → (l.routine ≡ 0 → ⊥) → Waits bs l.routine ls
-unfolding able is_return
-returning bs l ls a h e n =
-    let p = (and_parts (allowed_at bs l (here bs l)) _ h).1 in
-    let q = or_true (not (is_return (here bs l))) _ p (ap (λ o. not (is_return o)) e) in
-    waits bs l.routine ls (or_true (eqb l.routine 0) _ q (ne_eqb l.routine 0 n))
+module _ (bs : List ℕ) (ok : accepted bs ≡ true) where
+  waits : (r : ℕ) (ls : List Level) → awaited bs r ls ≡ true → Waits bs r ls
+  unfolding awaited
+  waits r [] h = absurd (false≢true h)
+  waits r (g ∷ gs) h =
+      let p = and_parts (allowed_at bs g (here bs g)) (calls_routine r (here bs g)) h in
+      let call = calls_it r (here bs g) p.1 in
+      record { a = call.a; b = call.b; some = omega arith; caller = ready_at bs ok g (Call call.a call.b r) call.is p.0 }
+
+  -- a routine other than 0 that returns is waited for
+  pub returning : (l : Level) (ls : List Level) (a : ℕ) → able bs l ls ≡ true → here bs l ≡ Some (Ret a) → (l.routine ≡ 0 → ⊥) → Waits bs l.routine ls
+  unfolding able is_return
+  returning l ls a h e n =
+      let p = (and_parts (allowed_at bs l (here bs l)) _ h).1 in
+      let q = or_true (not (is_return (here bs l))) _ p (ap (λ o. not (is_return o)) e) in
+      waits l.routine ls (or_true (eqb l.routine 0) _ q (ne_eqb l.routine 0 n))

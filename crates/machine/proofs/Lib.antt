@@ -1,8 +1,7 @@
 pub mod Copies
-pub mod Handing
+pub mod Frames
 pub mod Items
 pub mod Legal
 pub mod Runs
 pub mod Soundness
 pub mod Steps
-pub mod Tops

@@ -24,7 +24,8 @@ use Rattle.module.specs.Shape.{after as shape_after}
 use Rattle.module.proofs.Accepts.{accepts_laid, accepts_kept, accepts_rules, shapes_same}
 use Rattle.module.proofs.At.{an_instruction}
 use Rattle.machine.specs.declared.frame.Register.{Register}
-use Rattle.machine.specs.Level.{Level, level, variable, register, value, onward, wrote, jumped, copied, values_from, given}
+use Rattle.machine.specs.declared.frame.Register.TheVariants.{Variable, Constant}
+use Rattle.machine.specs.Level.{Level, level, is_constant, value_of, value, onward, wrote, jumped, copied, values_from, given}
 use Rattle.machine.specs.Memory.{fits, loading}
 use Rattle.machine.specs.Sound.{AsForetold, is_foretold, all_foretold, linked, sound_levels, sound_in, sound, NeverStuck}
 use Rattle.machine.specs.World.{Phase, running, ended, tripped, World, Move, goes, trips, or_trip, or_refused, into, entered, resumed, handed, effect, shape_of, allowed, allowed_at, here, calls_routine, awaited, able, is_return, after, effect_here, step_of, while_running, step}
@@ -42,9 +43,9 @@ same_shape_lem [] = refl
 same_shape_lem (f ∷ s) = and_from _ _ (same_flag_itself f) (same_shape_lem s)
 
 -- writing a register that is no constant keeps the shape
-shape-set : (rs : List Register) (a v : ℕ) → get_or (shape_of rs) a true ≡ false → shape_of (set rs a (variable v)) ≡ shape_of rs
+shape-set : (rs : List Register) (a v : ℕ) → get_or (shape_of rs) a true ≡ false → shape_of (set rs a (Variable v)) ≡ shape_of rs
 shape-set rs a v h =
-    map-set (λ x. x.constant) rs a (variable v) ∙ ap (set (shape_of rs) a) (sym h) ∙ set-get_or (shape_of rs) a true
+    map-set is_constant rs a (Variable v) ∙ ap (set (shape_of rs) a) (sym h) ∙ set-get_or (shape_of rs) a true
 
 -- and so does writing several
 shape-given : (vs : List ℕ) (rs : List Register) (a : ℕ) → ((k : ℕ) → k < length vs → get_or (shape_of rs) (a + k) true ≡ false) →
@@ -53,11 +54,11 @@ shape-given [] rs a h = refl
 shape-given (v ∷ vs) rs a h =
     let z : a + 0 ≡ a = omega arith in
     let first = shape-set rs a v (ap (λ n. get_or (shape_of rs) n true) (sym z) ∙ h 0 (omega arith)) in
-    let later : (k : ℕ) → k < length vs → get_or (shape_of (set rs a (variable v))) (a + 1 + k) true ≡ false
+    let later : (k : ℕ) → k < length vs → get_or (shape_of (set rs a (Variable v))) (a + 1 + k) true ≡ false
     = λ k lt.
     let e : a + 1 + k ≡ a + (k + 1) = omega arith in
     ap (λ s. get_or s (a + 1 + k) true) first ∙ ap (λ n. get_or (shape_of rs) n true) e ∙ h (k + 1) (omega arith) in
-    shape-given vs (set rs a (variable v)) (a + 1) later ∙ first
+    shape-given vs (set rs a (Variable v)) (a + 1) later ∙ first
 
 -- copies are variables
 shape-copied : (rs : List Register) (b n : ℕ) → b + n ≤ length rs → shape_of (copied rs b n) ≡ replicate n false
@@ -65,7 +66,7 @@ shape-copied rs b n h =
     let all = length-take-le n (drop b rs) (omega (arith, length-drop b rs)) in
     all_false (take n (drop b rs)) ∙ ap (λ k. replicate k false) all
   where
-    all_false : (xs : List Register) → shape_of (map (λ x. variable x.value) xs) ≡ replicate (length xs) false
+    all_false : (xs : List Register) → shape_of (map (λ x. Variable (value_of x)) xs) ≡ replicate (length xs) false
     all_false [] = refl
     all_false (x ∷ xs) = ap (λ s. false ∷ s) (all_false xs)
 
@@ -226,7 +227,7 @@ module _ (bs : List ℕ) (ok : accepted bs ≡ true) where
     -- one register is written
     writes : (x : Instr) (a v : ℕ) → At l x → ends x ≡ false → passed x (shape_of l.registers) ≡ shape_of l.registers →
         Writes bs l.routine x a → sound_levels bs (wrote l a v ∷ ls) ≡ true
-    writes x a v st f s w = moves x (set l.registers a (variable v)) st f (shape-set l.registers a v (spared l x st a w) ∙ sym s)
+    writes x a v st f s w = moves x (set l.registers a (Variable v)) st f (shape-set l.registers a v (spared l x st a w) ∙ sym s)
 
     -- a routine begins with its arguments as variables
     begins_with : (a b n : ℕ) → At l (Call a b n) → AsForetold bs (entered bs b n l)
@@ -254,18 +255,18 @@ module _ (bs : List ℕ) (ok : accepted bs ≡ true) where
     -- every instruction leaves a machine as foretold
     fine : (x : Instr) → At l x → Fine bs (effect bs rule x l ls memory ports)
     unfolding effect
-    fine New st = moves New _ st refl (map_push (λ x. x.constant) l.registers (variable 0))
-    fine (Def n) st = moves (Def n) _ st refl (map_push (λ x. x.constant) l.registers (register n true))
+    fine New st = moves New _ st refl (map_push is_constant l.registers (Variable 0))
+    fine (Def n) st = moves (Def n) _ st refl (map_push is_constant l.registers (Constant n))
     fine Kill st =
         let rs = l.registers in
         let less = ap (λ n. take (n - 1) (shape_of rs)) (sym (length-shape rs)) in
-        moves Kill _ st refl (sym (take-map (λ x. x.constant) (length rs - 1) rs) ∙ less)
+        moves Kill _ st refl (sym (take-map is_constant (length rs - 1) rs) ∙ less)
     fine (Mov a b) st = writes (Mov a b) a _ st refl refl (inl (itself a))
     fine (Swap a b) st =
         let rs = l.registers in
         let first = shape-set rs a (value l b) (spared l (Swap a b) st a (inl (itself a))) in
         let free = spared l (Swap a b) st b (inr (itself b)) in
-        moves (Swap a b) _ st refl (shape-set (set rs a (variable (value l b))) b (value l a) (ap (λ s. get_or s b true) first ∙ free) ∙ first)
+        moves (Swap a b) _ st refl (shape-set (set rs a (Variable (value l b))) b (value l a) (ap (λ s. get_or s b true) first ∙ free) ∙ first)
     fine (Calc o a b c) st = writes (Calc o a b c) a _ st refl refl (inl (itself a))
     fine (Divide p m a b c) st =
         or_trip_lem bs (divided p m (value l b) (value l c)) _ _ (λ v. writes (Divide p m a b c) a v st refl refl (inl (itself a)))

@@ -1,7 +1,8 @@
 -- A nested routine as the rules see it, and what becomes of its registers.
-use Rattle.std.specs.Prelude.{ℕ, ◌+◌, Bool, false, List, [], ◌∷◌, map, take, drop, slice_index_or, slice_set}
+use Rattle.std.specs.Prelude.{ℕ, ◌+◌, Bool, true, false, List, [], ◌∷◌, map, take, drop, slice_index_or, slice_set}
 use Rattle.machine.specs.declared.frame.Frame.{Frame}
 use Rattle.machine.specs.declared.frame.Register.{Register}
+use Rattle.machine.specs.declared.frame.Register.TheVariants.{Variable, Constant}
 
 -- a nested routine: which it is, the instruction that it stands at, and its registers, register 0 first
 pub record Level : Type 0 where
@@ -16,15 +17,18 @@ level routine pc registers = record { routine = routine; pc = pc; registers = re
 abbrev pub level_of : Frame → Level
 level_of f = level f.routine f.pc (take f.depth f.registers)
 
-abbrev pub register : ℕ → Bool → Register
-register v constant = record { value = v; constant = constant }
+-- the value of a register, and whether it is a constant
+abbrev pub value_of : Register → ℕ
+value_of (Variable v) = v
+value_of (Constant v) = v
 
-abbrev pub variable : ℕ → Register
-variable v = register v false
+abbrev pub is_constant : Register → Bool
+is_constant (Variable v) = false
+is_constant (Constant v) = true
 
 -- the value of register a
 unfoldable pub value : Level → ℕ → ℕ
-value l a = (slice_index_or l.registers a (variable 0)).value
+value l a = value_of (slice_index_or l.registers a (Variable 0))
 
 -- the routine with these registers, at the same instruction
 abbrev pub still : Level → List Register → Level
@@ -36,25 +40,31 @@ onward l registers = level l.routine (l.pc + 1) registers
 
 -- one instruction on, register a being a variable of value v
 abbrev pub wrote : Level → ℕ → ℕ → Level
-wrote l a v = onward l (slice_set l.registers a (variable v))
+wrote l a v = onward l (slice_set l.registers a (Variable v))
 
--- one instruction on, registers a and b having exchanged their values
+-- registers a and b, having exchanged their values, among the others
+abbrev pub exchanged : Level → ℕ → ℕ → List Register
+exchanged l a b = slice_set (slice_set l.registers a (Variable (value l b))) b (Variable (value l a))
+
 abbrev pub swapped : Level → ℕ → ℕ → Level
-swapped l a b = onward l (slice_set (slice_set l.registers a (variable (value l b))) b (variable (value l a)))
+swapped l a b = onward l (exchanged l a b)
 
 -- at instruction n
 abbrev pub jumped : Level → ℕ → Level
 jumped l n = level l.routine n l.registers
 
--- count registers from b on, copied as variables
+-- registers copied as variables, and count of them from b on
+abbrev pub variables : List Register → List Register
+variables registers = map (λ x. Variable (value_of x)) registers
+
 abbrev pub copied : List Register → ℕ → ℕ → List Register
-copied registers b count = map (λ x. variable x.value) (take count (drop b registers))
+copied registers b count = variables (take count (drop b registers))
 
 -- the values of count registers from a on
 abbrev pub values_from : List Register → ℕ → ℕ → List ℕ
-values_from registers a count = map (λ x. x.value) (take count (drop a registers))
+values_from registers a count = map value_of (take count (drop a registers))
 
 -- the registers, with variables of these values from a on
 abbrev pub given : List Register → ℕ → List ℕ → List Register
 given registers a [] = registers
-given registers a (v ∷ vs) = given (slice_set registers a (variable v)) (a + 1) vs
+given registers a (v ∷ vs) = given (slice_set registers a (Variable v)) (a + 1) vs

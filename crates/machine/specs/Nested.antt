@@ -1,13 +1,8 @@
--- The nested routines of a stack of frames.
-use Rattle.std.specs.Prelude.{◌≡◌, ℕ, zero, suc, ◌<◌, List, [], ◌∷◌, map, length, slice_index_or}
+-- The nested routines of a stack.
+use Rattle.std.specs.Prelude.{ℕ, zero, suc, List, [], ◌∷◌, map, slice_index_or}
 use Rattle.machine.specs.declared.frame.Frame.{Frame}
 use Rattle.machine.specs.declared.stack.Stack.{Stack}
 use Rattle.machine.specs.Level.{Level, level, level_of}
-
--- there are 32 frames, and a running one among them
-pub record Sized (stack : Stack) : Type 0 where
-  pub nested : stack.top < 32
-  pub whole : length stack.frames ≡ 32
 
 -- what the definitions read where there is no routine
 abbrev pub none : Level
@@ -22,11 +17,11 @@ below frames zero = []
 below frames (suc n) = level_at frames n ∷ below frames n
 
 unfoldable pub running : Stack → Level
-running stack = level_at stack.frames stack.top
+running stack = level_at stack.frames stack.top.index
 
 -- those that wait, the newest first
 unfoldable pub waiting : Stack → List Level
-waiting stack = below stack.frames stack.top
+waiting stack = below stack.frames stack.top.index
 
 -- the newest of those that wait
 abbrev pub first_of : List Level → Level

@@ -9,7 +9,7 @@ use Rattle.machine.specs.declared.machine.State.TheVariants.{Running, Ended, Tri
 use Rattle.machine.specs.declared.stack.Stack.{Stack}
 use Rattle.machine.specs.Level.{Level}
 use Rattle.machine.specs.Nested.{running as top, waiting}
-use Rattle.machine.specs.World.{Phase, running, ended, tripped, World, world, after, effect}
+use Rattle.machine.specs.World.{Phase, running, ended, tripped, Move, World, world, after, effect}
 
 abbrev pub phase_of : State → Phase
 phase_of Running = running
@@ -26,8 +26,14 @@ levels_in (Tripped cause place) stack = top stack ∷ waiting stack
 unfoldable pub world_of : Machine → List Port → World
 world_of m ports = world (phase_of m.state) (levels_in m.state m.stack) m.memory.bytes ports
 
--- what the instruction x of a module makes of the machine m is n, whatever the host
+-- what an instruction x of a module comes to in the machine m, over these ports
+abbrev pub effect_in : List ℕ → (List Port → List Port) → Instr → Machine → List Port → Move
+effect_in bs rule x m ports = effect bs rule x (top m.stack) (waiting m.stack) m.memory.bytes ports
+
+-- after the instruction x of a module, the machine m with the ports ps is n with the ports qs
+pub record Makes (bs : List ℕ) (rule : List Port → List Port) (x : Instr) (m : Machine) (ps : List Port) (n : Machine) (qs : List Port) : Type 0 where
+  pub leaves : world_of n qs ≡ after (world_of m ps) (top m.stack) (effect_in bs rule x m ps)
+
+-- the same whatever the host
 abbrev pub Does : List ℕ → Instr → Machine → Machine → Type 0
-Does bs x m n =
-    (rule : List Port → List Port) (ports : List Port) →
-    world_of n ports ≡ after (world_of m ports) (top m.stack) (effect bs rule x (top m.stack) (waiting m.stack) m.memory.bytes ports)
+Does bs x m n = (rule : List Port → List Port) (ports : List Port) → Makes bs rule x m ports n ports

@@ -1,5 +1,5 @@
 -- The machine of the rules: what runs, where a step has a rule, and what the step does.
-use Rattle.std.specs.Prelude.{ℕ, ◌+◌, ◌-◌, Bool, true, false, cond, not, ◌&&◌, ◌||◌, List, [], ◌∷◌, ◌++◌, map, length, take, Some, None, Ok, Err, Option, Result, ◌==◌, nat_lt}
+use Rattle.std.specs.Prelude.{ℕ, ◌+◌, ◌-◌, Bool, false, cond, not, ◌&&◌, ◌||◌, List, [], ◌∷◌, ◌++◌, map, length, take, Some, None, Ok, Err, Option, Result, ◌==◌, nat_lt}
 use Rattle.refusal.specs.Values.{Values}
 use Rattle.isa.specs.declared.instr.Instr.{Instr}
 use Rattle.isa.specs.declared.instr.Instr.TheVariants.{New, Def, Kill, Mov, Swap, Calc, Divide, Load, Store, Bal, Branch, Call, Ret, Get, Put, Tick}
@@ -13,7 +13,8 @@ use Rattle.host.specs.declared.port.Port.{Port}
 use Rattle.host.specs.Ports.{reading, writing, written}
 use Rattle.faults.specs.Causes.{CauseValues, Trip, by_engine}
 use Rattle.machine.specs.declared.frame.Register.{Register}
-use Rattle.machine.specs.Level.{Level, level, register, variable, value, onward, wrote, swapped, jumped, copied, values_from, given}
+use Rattle.machine.specs.declared.frame.Register.TheVariants.{Variable, Constant}
+use Rattle.machine.specs.Level.{Level, level, is_constant, value, onward, wrote, swapped, jumped, copied, values_from, given}
 use Rattle.machine.specs.Memory.{fits, loading, stored}
 
 -- whether a machine runs, and the five numbers of the trip if it tripped
@@ -68,8 +69,8 @@ handed bs vs (g ∷ gs) memory ports = goes (resumed bs g vs ∷ gs) memory port
 
 -- What an instruction does in the routine l, while the routines ls wait. A waiting routine stands at its CALL.
 unfoldable pub effect : List ℕ → (List Port → List Port) → Instr → Level → List Level → List ℕ → List Port → Move
-effect bs rule New l ls memory ports = goes (onward l (l.registers ++ (variable 0 ∷ [])) ∷ ls) memory ports
-effect bs rule (Def n) l ls memory ports = goes (onward l (l.registers ++ (register n true ∷ [])) ∷ ls) memory ports
+effect bs rule New l ls memory ports = goes (onward l (l.registers ++ (Variable 0 ∷ [])) ∷ ls) memory ports
+effect bs rule (Def n) l ls memory ports = goes (onward l (l.registers ++ (Constant n ∷ [])) ∷ ls) memory ports
 effect bs rule Kill l ls memory ports = goes (onward l (take (length l.registers - 1) l.registers) ∷ ls) memory ports
 effect bs rule (Mov a b) l ls memory ports = goes (wrote l a (value l b) ∷ ls) memory ports
 effect bs rule (Swap a b) l ls memory ports = goes (swapped l a b ∷ ls) memory ports
@@ -96,7 +97,7 @@ effect bs rule Tick l ls memory ports = goes (onward l l.registers ∷ ls) memor
 
 -- the shape of registers: which of them are constants
 abbrev pub shape_of : List Register → List Bool
-shape_of rs = map (λ x. x.constant) rs
+shape_of rs = map is_constant rs
 
 -- an instruction of routine r has a rule at registers of this shape: KILL finds a register, NEW and DEF find room, CALL names a
 -- routine that there is, every register that is read or written is there, and no constant is written

@@ -1,5 +1,5 @@
 // Loads and stores: the lowest byte stands first.
-ghost use Rattle.std.specs.Prelude.{◌≡◌, ◌+◌, ◌≤◌};
+ghost use Rattle.std.specs.Prelude.{◌≡◌, ◌+◌, ◌≤◌, is_some};
 ghost use Rattle.isa.specs.Form.{bytes as bytes_of};
 ghost use Rattle.machine.specs.Memory.{fits, loading, storing, loaded, stored};
 
@@ -67,15 +67,15 @@ impl Memory {
         Some(self.read(address as usize, width))
     }
 
-    /// Puts the low bytes of v from an address on. Answers whether they fit; where they pass the end, nothing changes.
-    pub fn store(&mut self, address: u64, width: Width, v: u32) -> bool
-        ensures answer { result ≡ fits address width }
+    /// Puts the low bytes of v from an address on, or answers none where they pass the end, and then nothing changes.
+    pub fn store(&mut self, address: u64, width: Width, v: u32) -> Option<()>
+        ensures answer { is_some result ≡ fits address width }
         ensures memory { self.new.bytes ≡ storing self.old.bytes address width v }
     {
         if !is_inside(address, width) {
-            return false;
+            return None;
         }
         self.write(address as usize, width, v);
-        true
+        Some(())
     }
 }

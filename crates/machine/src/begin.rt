@@ -1,16 +1,13 @@
 // Where a run begins.
-ghost use Rattle.std.specs.Prelude.{◌≡◌, ◌-◌, ◌≤◌, List, [], ◌++◌, length, replicate};
+ghost use Rattle.std.specs.Prelude.{◌≡◌, ◌-◌, ◌≤◌, List, ◌++◌, length, replicate};
 ghost use Rattle.host.specs.declared.port.Port.{Port};
 ghost use Rattle.module.specs.Told.{bytes_of};
-ghost use Rattle.machine.specs.Level.{level};
-ghost use Rattle.machine.specs.Nested.{Sized, running, waiting};
 ghost use Rattle.machine.specs.Sound.{begun, NeverStuck};
 ghost use Rattle.machine.specs.View.{world_of};
 
-use crate::frame::{Frame, REGISTERS, Register};
 use crate::machine::{Machine, State};
 use crate::memory::{BYTES, Memory};
-use crate::stack::{MOST_NESTED, Stack};
+use crate::stack::Stack;
 use module::checked::Checked;
 
 impl Memory {
@@ -22,29 +19,6 @@ impl Memory {
         let mut bytes = [0; BYTES];
         bytes[..image.len()].copy_from_slice(image);
         Memory { bytes }
-    }
-}
-
-impl Stack {
-    // Routine 0 at its first instruction, with no registers.
-    fn first() -> Stack
-        ensures sized { Sized result }
-        ensures running { running result ≡ level 0 0 [] }
-        ensures waiting { waiting result ≡ [] }
-    {
-        let frame = Frame {
-            routine: 0,
-            pc: 0,
-            depth: 0,
-            registers: [Register {
-                value: 0,
-                constant: false,
-            }; REGISTERS],
-        };
-        Stack {
-            frames: [frame; MOST_NESTED],
-            top: 0,
-        }
     }
 }
 

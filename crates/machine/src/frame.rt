@@ -1,13 +1,13 @@
-ghost use Rattle.std.specs.Prelude.{◌≡◌, ◌≤◌, length};
+ghost use Rattle.std.specs.Prelude.{◌≤◌};
 
 /// The most registers of a routine.
 pub const REGISTERS: usize = 32;
 
 /// A register: a variable, or a constant that DEF made.
 #[derive(Clone, Copy)]
-pub struct Register {
-    pub value: u32,
-    pub constant: bool,
+pub enum Register {
+    Variable(u32),
+    Constant(u32),
 }
 
 /// A nested routine: which one, the instruction that it stands at, and its registers, of which the first depth are there.
@@ -18,5 +18,4 @@ pub struct Frame {
     pub(crate) depth: usize,
     pub(crate) registers: [Register; 32],
     ghost few: { depth ≤ 32 },
-    ghost whole: { length registers ≡ 32 },
 }

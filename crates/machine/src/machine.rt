@@ -1,5 +1,3 @@
-ghost use Rattle.std.specs.Prelude.{◌≡◌, ◌<◌, length};
-
 use crate::memory::Memory;
 use crate::stack::Stack;
 use faults::cause::Cause;
@@ -19,6 +17,4 @@ pub struct Machine {
     pub(crate) state: State,
     pub(crate) stack: Stack,
     pub(crate) memory: Memory,
-    ghost nested: { stack.top < 32 },
-    ghost whole: { length stack.frames ≡ 32 },
 }

@@ -1,70 +1,107 @@
 // What an instruction does to the registers of the running routine.
-ghost use Rattle.std.specs.Prelude.{◌≡◌, ◌+◌, ◌-◌, ◌^◌, ◌<◌, false, [], ◌∷◌, ◌++◌, length, take, slice_set};
-ghost use Rattle.machine.specs.Level.{level, level_of, value, variable, still, onward, wrote, swapped, jumped, register};
+ghost use Rattle.std.specs.Prelude.{◌≡◌, ◌+◌, ◌-◌, ◌^◌, ◌<◌, ◌≤◌, [], ◌∷◌, ◌++◌, length, map, take, drop, slice_set};
+ghost use Rattle.machine.specs.declared.frame.Register.TheVariants.{Variable};
+ghost use Rattle.machine.specs.Level.{level, level_of, value_of, value, still, onward, jumped, exchanged, variables, given};
+ghost use Rattle.machine.specs.Shown.{register_of};
 
-use crate::frame::{Frame, Register};
+use crate::frame::{Frame, REGISTERS, Register};
+
+impl Register {
+    pub(crate) fn value(self) -> u32
+        ensures { result ≡ value_of self }
+    {
+        match self {
+            Register::Variable(v) | Register::Constant(v) => v,
+        }
+    }
+}
 
 impl Frame {
+    // A routine that begins, with no registers.
+    pub(crate) fn new(routine: usize) -> Frame
+        ensures { level_of result ≡ level routine 0 [] }
+    {
+        Frame {
+            routine,
+            pc: 0,
+            depth: 0,
+            registers: [Register::Variable(0); REGISTERS],
+        }
+    }
+
+    // The registers that there are.
+    fn registers(&self) -> &[Register]
+        ensures { result.now ≡ (level_of self.now).registers }
+    {
+        &self.registers[..self.depth]
+    }
+
+    // So many registers, from one on.
+    pub(crate) fn span(&self, first: u8, len: u8) -> &[Register]
+        requires { first + len ≤ length (level_of self.now).registers }
+        ensures registers { result.now ≡ take len (drop first (level_of self.now).registers) }
+        ensures length { length result.now ≡ len }
+    {
+        let first = first as usize;
+        &self.registers()[first..first + len as usize]
+    }
+
+    // Register k, if there is one.
+    pub(crate) fn register(&self, k: u8) -> Option<u32>
+        ensures { result ≡ register_of (level_of self.now) k }
+    {
+        self.registers()
+            .get(k as usize)
+            .map(|register| register.value())
+    }
+
     pub(crate) fn read(&self, a: u8) -> u32
-        requires { a < self.now.depth }
+        requires { a < length (level_of self.now).registers }
         ensures { result ≡ value (level_of self.now) a }
     {
-        self.registers[a as usize].value
+        self.registers()[a as usize].value()
     }
 
     // Makes a variable of value v of register a.
     pub(crate) fn write(&mut self, a: u8, v: u32)
-        requires there { a < self.old.depth }
-        requires place { self.old.pc < 2 ^ 32 }
-        ensures { level_of self.new ≡ wrote (level_of self.old) a v }
+        requires { a < length (level_of self.old).registers }
+        ensures { level_of self.new ≡ still (level_of self.old) (slice_set (level_of self.old).registers a (Variable v)) }
     {
-        self.registers[a as usize] = Register {
-            value: v,
-            constant: false,
-        };
-        self.pc += 1;
+        self.registers[a as usize] = Register::Variable(v);
     }
 
+    // Exchanges the values of two registers.
     pub(crate) fn swap(&mut self, a: u8, b: u8)
-        requires first { a < self.old.depth }
-        requires second { b < self.old.depth }
-        requires place { self.old.pc < 2 ^ 32 }
-        ensures { level_of self.new ≡ swapped (level_of self.old) a b }
+        requires first { a < length (level_of self.old).registers }
+        requires second { b < length (level_of self.old).registers }
+        ensures { level_of self.new ≡ still (level_of self.old) (exchanged (level_of self.old) a b) }
     {
         let first = self.read(a);
         let second = self.read(b);
-        self.registers[a as usize] = Register {
-            value: second,
-            constant: false,
-        };
-        self.registers[b as usize] = Register {
-            value: first,
-            constant: false,
-        };
-        self.pc += 1;
+        self.write(a, second);
+        self.write(b, first);
     }
 
-    pub(crate) fn push(&mut self, v: u32, constant: bool)
-        requires room { self.old.depth < 32 }
-        requires place { self.old.pc < 2 ^ 32 }
-        ensures { level_of self.new ≡ onward (level_of self.old) ((level_of self.old).registers ++ (register v constant ∷ [])) }
+    // Adds a register.
+    pub(crate) fn push(&mut self, register: Register)
+        requires { length (level_of self.old).registers < 32 }
+        ensures { level_of self.new ≡ still (level_of self.old) ((level_of self.old).registers ++ (register ∷ [])) }
     {
-        self.registers[self.depth] = Register { value: v, constant };
+        self.registers[self.depth] = register;
         self.depth += 1;
-        self.pc += 1;
     }
 
+    // Removes the last register.
     pub(crate) fn pop(&mut self)
-        requires some { 0 < self.old.depth }
-        requires place { self.old.pc < 2 ^ 32 }
-        ensures { level_of self.new ≡ onward (level_of self.old) (take (length (level_of self.old).registers - 1) (level_of self.old).registers) }
+        requires { 0 < length (level_of self.old).registers }
+        ensures { level_of self.new ≡ still (level_of self.old) (take (length (level_of self.old).registers - 1) (level_of self.old).registers) }
     {
         self.depth -= 1;
-        self.pc += 1;
     }
 
+    // Moves on to the next instruction.
     pub(crate) fn skip(&mut self)
-        requires { self.old.pc < 2 ^ 32 }
+        requires { (level_of self.old).pc < 2 ^ 32 }
         ensures { level_of self.new ≡ onward (level_of self.old) (level_of self.old).registers }
     {
         self.pc += 1;
@@ -76,35 +113,26 @@ impl Frame {
         self.pc = n as usize;
     }
 
-    // Becomes a frame of a routine that begins, with no registers.
-    pub(crate) fn begin(&mut self, routine: usize)
-        ensures { level_of self.new ≡ level routine 0 [] }
+    // Another routine begins in its place, with these arguments as variables.
+    pub(crate) fn begin(&mut self, routine: usize, arguments: &[Register])
+        requires { length arguments.now ≤ 32 }
+        ensures { level_of self.new ≡ level routine 0 (variables arguments.now) }
     {
         self.routine = routine;
         self.pc = 0;
         self.depth = 0;
+        for argument in arguments {
+            self.push(Register::Variable(argument.value()));
+        }
     }
 
-    // Adds a variable, and stays at its instruction.
-    pub(crate) fn append(&mut self, v: u32)
-        requires { self.old.depth < 32 }
-        ensures { level_of self.new ≡ still (level_of self.old) ((level_of self.old).registers ++ (variable v ∷ [])) }
+    // Takes results into its registers from one on.
+    pub(crate) fn take(&mut self, into: u8, results: &[Register])
+        requires { into + length results.now ≤ length (level_of self.old).registers }
+        ensures { level_of self.new ≡ still (level_of self.old) (given (level_of self.old).registers into (map value_of results.now)) }
     {
-        self.registers[self.depth] = Register {
-            value: v,
-            constant: false,
-        };
-        self.depth += 1;
-    }
-
-    // Makes a variable of value v of register a, and stays at its instruction.
-    pub(crate) fn put(&mut self, a: u8, v: u32)
-        requires { a < self.old.depth }
-        ensures { level_of self.new ≡ still (level_of self.old) (slice_set (level_of self.old).registers a (variable v)) }
-    {
-        self.registers[a as usize] = Register {
-            value: v,
-            constant: false,
-        };
+        for (k, result) in results.iter().enumerate() {
+            self.write(into + k as u8, result.value());
+        }
     }
 }

@@ -21,7 +21,7 @@ impl Machine {
     {
         match self.state {
             State::Ended => None,
-            State::Running | State::Tripped { .. } => self.stack.register(k),
+            State::Running | State::Tripped { .. } => self.stack.running().register(k),
         }
     }
 

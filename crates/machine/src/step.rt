@@ -1,15 +1,16 @@
 // One step of a running machine.
-ghost use Rattle.std.specs.Prelude.{◌≡◌, ℕ, ◌+◌, ◌<◌, true, List, length, Some, ◌==◌};
+ghost use Rattle.std.specs.Prelude.{◌≡◌, ℕ, ◌+◌, ◌<◌, true, List, length, Some, OnOk, OnErr, IfErr, ◌==◌};
 ghost use Rattle.host.specs.declared.port.Port.{Port};
 ghost use Rattle.faults.specs.Causes.{cause_of};
 ghost use Rattle.isa.specs.declared.instr.Instr.TheVariants.{Call, Ret};
 ghost use Rattle.module.specs.Told.{bytes_of};
 ghost use Rattle.machine.specs.declared.machine.State.TheVariants.{Running};
-ghost use Rattle.machine.specs.Level.{value};
+ghost use Rattle.machine.specs.Level.{level_of, value};
 ghost use Rattle.machine.specs.Nested.{running, waiting};
-ghost use Rattle.machine.specs.View.{world_of, Does};
+ghost use Rattle.machine.specs.View.{world_of, effect_in, Makes, Does};
 ghost use Rattle.machine.specs.World.{able, after, trips, here, step as stepped};
 
+use crate::frame::{Frame, Register};
 use crate::machine::{Machine, State};
 use crate::stack::MOST_NESTED;
 use faults::cause::Cause;
@@ -31,15 +32,24 @@ fn results_into(call: Instr) -> u8
     }
 }
 
-impl Machine {
-    // The address that register b and n give, as a whole number.
-    fn address(&self, b: u8, n: u32) -> u64
-        requires { b < length (running self.now.stack).registers }
-        ensures { result ≡ value (running self.now.stack) b + n }
+impl Frame {
+    // The instruction at which the routine stands.
+    fn instruction(&self, checked: &Checked) -> Option<Instr>
+        ensures { result ≡ here (bytes_of checked.now.opened) (level_of self.now) }
     {
-        self.stack.read(b) as u64 + n as u64
+        checked.instruction(self.routine, self.pc)
     }
 
+    // The address that register b and n give, as a whole number.
+    fn address(&self, b: u8, n: u32) -> u64
+        requires { b < length (level_of self.now).registers }
+        ensures { result ≡ value (level_of self.now) b + n }
+    {
+        self.read(b) as u64 + n as u64
+    }
+}
+
+impl Machine {
     // Trips where it stands.
     fn trip(&mut self, cause: Cause)
         requires running { self.old.state ≡ Running }
@@ -47,34 +57,38 @@ impl Machine {
         requires instruction { (running self.old.stack).pc < 65536 }
         ensures { (ports : List Port) → world_of self.new ports ≡ after (world_of self.old ports) (running self.old.stack) (trips (cause_of cause)) }
     {
+        let running = self.stack.running();
         let place = Place {
-            routine: self.stack.routine() as u16,
-            instruction: self.stack.pc() as u16,
+            routine: running.routine as u16,
+            instruction: running.pc as u16,
         };
         self.state = State::Tripped { cause, place };
     }
 
     // Begins routine n, with arguments from register b on.
-    fn call(&mut self, checked: &Checked, a: u8, b: u8, n: u32)
+    fn call(&mut self, checked: &Checked, a: u8, b: u8, n: u32) -> Result<(), Cause>
         requires running { self.old.state ≡ Running }
         requires stands { here (bytes_of checked.now.opened) (running self.old.stack) ≡ Some (Call a b n) }
         requires able { able (bytes_of checked.now.opened) (running self.old.stack) (waiting self.old.stack) ≡ true }
-        ensures { Does (bytes_of checked.now.opened) (Call a b n) self.old self.new }
+        ensures done { OnOk result (Does (bytes_of checked.now.opened) (Call a b n) self.old self.new) }
+        ensures tripped { IfErr result (λ cause. (rule : List Port → List Port) (ports : List Port) → effect_in (bytes_of checked.now.opened) rule (Call a b n) self.old ports ≡ trips (cause_of cause)) }
+        ensures unchanged { OnErr result (self.new ≡ self.old) }
     {
         if self.stack.callers() == MOST_NESTED - 1 {
-            return self.trip(Cause::TooDeep);
+            return Err(Cause::TooDeep);
         }
         let Some(signature) = checked.signature(n as usize) else {
             unreachable()
         };
-        self.stack.enter(n as usize, b, signature.arguments)
+        self.stack.enter(n as usize, b, signature.arguments);
+        Ok(())
     }
 
     // Whether a RET ends the run: in routine 0, however many routines wait.
     fn ends_run(&self) -> bool
         ensures { result ≡ ((running self.now.stack).routine == 0) }
     {
-        self.stack.routine() == 0
+        self.stack.running().routine == 0
     }
 
     // Returns the results from register a on, or ends the run.
@@ -88,15 +102,131 @@ impl Machine {
             self.state = State::Ended;
             return;
         }
-        let routine = self.stack.routine();
-        let Some(signature) = checked.signature(routine) else {
+        let Some(signature) = checked.signature(self.stack.running().routine) else {
             unreachable()
         };
-        let (caller, pc) = self.stack.caller();
-        let Some(call) = checked.instruction(caller, pc) else {
+        let Some(call) = self.stack.caller().instruction(checked) else {
             unreachable()
         };
         self.stack.leave(a, results_into(call), signature.results)
+    }
+
+    // What an instruction does, or the cause for which it trips.
+    fn perform<H: Host>(
+        &mut self,
+        instr: Instr,
+        checked: &Checked,
+        host: &mut H,
+    ) -> Result<(), Cause>
+        requires running { self.old.state ≡ Running }
+        requires stands { here (bytes_of checked.now.opened) (running self.old.stack) ≡ Some instr }
+        requires able { able (bytes_of checked.now.opened) (running self.old.stack) (waiting self.old.stack) ≡ true }
+        ensures done { OnOk result (Makes (bytes_of checked.now.opened) (H.rule host.old) instr self.old (H.ports host.old) self.new (H.ports host.new)) }
+        ensures tripped { IfErr result (λ cause. effect_in (bytes_of checked.now.opened) (H.rule host.old) instr self.old (H.ports host.old) ≡ trips (cause_of cause)) }
+        ensures unchanged { OnErr result (self.new ≡ self.old) }
+        ensures rested { OnErr result (H.ports host.new ≡ H.ports host.old) }
+        ensures rule { H.rule host.new ≡ H.rule host.old }
+        ensures base { H.base host.new ≡ H.base host.old }
+    {
+        let running = &mut self.stack.frames[self.stack.top.index];
+        match instr {
+            Instr::New => {
+                running.push(Register::Variable(0));
+                running.skip();
+                Ok(())
+            }
+            Instr::Def { n } => {
+                running.push(Register::Constant(n));
+                running.skip();
+                Ok(())
+            }
+            Instr::Kill => {
+                running.pop();
+                running.skip();
+                Ok(())
+            }
+            Instr::Mov { a, b } => {
+                running.write(a, running.read(b));
+                running.skip();
+                Ok(())
+            }
+            Instr::Swap { a, b } => {
+                running.swap(a, b);
+                running.skip();
+                Ok(())
+            }
+            Instr::Calc { operation, a, b, c } => {
+                let v = calculate(operation, running.read(b), running.read(c));
+                running.write(a, v);
+                running.skip();
+                Ok(())
+            }
+            Instr::Divide {
+                part,
+                kind,
+                a,
+                b,
+                c,
+            } => {
+                let divided = divide(part, kind, running.read(b), running.read(c));
+                let v = divided.ok_or(Cause::ZeroDivisor)?;
+                running.write(a, v);
+                running.skip();
+                Ok(())
+            }
+            Instr::Load { width, a, b, n } => {
+                let address = running.address(b, n);
+                let loaded = self.memory.load(address, width);
+                let v = loaded.ok_or(Cause::MemoryPassed { address })?;
+                running.write(a, v);
+                running.skip();
+                Ok(())
+            }
+            Instr::Store { width, a, b, n } => {
+                let address = running.address(b, n);
+                let stored = self.memory.store(address, width, running.read(a));
+                stored.ok_or(Cause::MemoryPassed { address })?;
+                running.skip();
+                Ok(())
+            }
+            Instr::Bal { n } => {
+                running.jump(n);
+                Ok(())
+            }
+            Instr::Branch { test, a, b, n } => {
+                if passes(test, running.read(a), running.read(b)) {
+                    running.jump(n);
+                } else {
+                    running.skip();
+                }
+                Ok(())
+            }
+            Instr::Call { a, b, n } => self.call(checked, a, b, n),
+            Instr::Ret { a } => {
+                self.give_back(checked, a);
+                Ok(())
+            }
+            Instr::Get { a, c } => {
+                let port = c as usize;
+                let answer = host.read(port);
+                let v = answer.map_err(|refusal| Cause::Host { refusal, port })?;
+                running.write(a, v);
+                running.skip();
+                Ok(())
+            }
+            Instr::Put { b, c } => {
+                let port = c as usize;
+                let answer = host.write(port, running.read(b));
+                answer.map_err(|refusal| Cause::Host { refusal, port })?;
+                running.skip();
+                Ok(())
+            }
+            Instr::Tick => {
+                host.tick();
+                running.skip();
+                Ok(())
+            }
+        }
     }
 
     /// One step of a running machine that has one: the instruction at which the running routine stands.
@@ -106,80 +236,11 @@ impl Machine {
         ensures step { stepped (bytes_of checked.now.opened) (H.rule (H.base host.old)) (world_of self.old (H.ports host.old)) ≡ Some (world_of self.new (H.ports host.new)) }
         ensures base { H.base host.new ≡ H.base host.old }
     {
-        let routine = self.stack.routine();
-        let pc = self.stack.pc();
-        let Some(instr) = checked.instruction(routine, pc) else {
+        let Some(instr) = self.stack.running().instruction(checked) else {
             unreachable()
         };
-        match instr {
-            Instr::New => self.stack.push(0, false),
-            Instr::Def { n } => self.stack.push(n, true),
-            Instr::Kill => self.stack.pop(),
-            Instr::Mov { a, b } => {
-                let v = self.stack.read(b);
-                self.stack.write(a, v)
-            }
-            Instr::Swap { a, b } => self.stack.swap(a, b),
-            Instr::Calc { operation, a, b, c } => {
-                let v = calculate(operation, self.stack.read(b), self.stack.read(c));
-                self.stack.write(a, v)
-            }
-            Instr::Divide {
-                part,
-                kind,
-                a,
-                b,
-                c,
-            } => {
-                match divide(part, kind, self.stack.read(b), self.stack.read(c)) {
-                    Some(v) => self.stack.write(a, v),
-                    None => self.trip(Cause::ZeroDivisor),
-                }
-            }
-            Instr::Load { width, a, b, n } => {
-                let address = self.address(b, n);
-                match self.memory.load(address, width) {
-                    Some(v) => self.stack.write(a, v),
-                    None => self.trip(Cause::MemoryPassed { address }),
-                }
-            }
-            Instr::Store { width, a, b, n } => {
-                let address = self.address(b, n);
-                let v = self.stack.read(a);
-                if self.memory.store(address, width, v) {
-                    self.stack.skip()
-                } else {
-                    self.trip(Cause::MemoryPassed { address })
-                }
-            }
-            Instr::Bal { n } => self.stack.jump(n),
-            Instr::Branch { test, a, b, n } => {
-                if passes(test, self.stack.read(a), self.stack.read(b)) {
-                    self.stack.jump(n)
-                } else {
-                    self.stack.skip()
-                }
-            }
-            Instr::Call { a, b, n } => self.call(checked, a, b, n),
-            Instr::Ret { a } => self.give_back(checked, a),
-            Instr::Get { a, c } => {
-                let port = c as usize;
-                match host.read(port) {
-                    Ok(v) => self.stack.write(a, v),
-                    Err(refusal) => self.trip(Cause::Host { refusal, port }),
-                }
-            }
-            Instr::Put { b, c } => {
-                let port = c as usize;
-                match host.write(port, self.stack.read(b)) {
-                    Ok(()) => self.stack.skip(),
-                    Err(refusal) => self.trip(Cause::Host { refusal, port }),
-                }
-            }
-            Instr::Tick => {
-                host.tick();
-                self.stack.skip()
-            }
+        if let Err(cause) = self.perform(instr, checked, host) {
+            self.trip(cause);
         }
     }
 }

@@ -1,4 +1,3 @@
-use Rattle.std.proofs.Common.{◌++◌, length, ap, ◌∙◌, arith}
 use Rattle.std.proofs.lemmas.List.{drop-replicate}
 use Rattle.machine.proofs.memory.Memory.holding.Goals as goal
 

@@ -1,61 +1,36 @@
-use Rattle.std.proofs.Common.{◌≡◌, refl, arith}
+use Rattle.std.proofs.Common.{length, get_or, ap, ◌∙◌, arith}
+use Rattle.machine.specs.Level.{level, variables, copied}
 use Rattle.machine.specs.Nested.{running, waiting}
-use Rattle.machine.proofs.Handing.{room_above, few_registers, begun_none, argument_there, argument_room, argument_next, entered_running, entered_waiting}
+use Rattle.machine.proofs.Frames.{room_above, few_registers, calling, begun_running, begun_waiting}
 use Rattle.machine.proofs.stack.Stack.enter.Goals as goal
 
-pub listed : goal.listed
-listed c = omega (arith, room_above c.args.self.now c.requires.room)
+pub bounds-above-0 : goal.bounds-above-0
+bounds-above-0 c = omega (arith, room_above c.args.self.now c.requires.room)
 
-pub bounds-self-above : goal.bounds-self-above
-bounds-self-above c = room_above c.args.self.now c.requires.room
-
-pub loop-k-init : goal.loop-k-init
-loop-k-init c =
+pub span-requires : goal.span-requires
+span-requires c =
     let s = c.args.self.now in
-    (begun_none s.frames s.top c.args.routine c.args.b c.begin.new.self (room_above s c.requires.room) c.requires.sized.whole c.begin.ensures, refl)
+    let caller = calling s (omega arith) _ _ (room_above s c.requires.room) c.split_at_mut-below.ensures.front c.split_at_mut-below.ensures.back c.index-below-caller.result in
+    omega (arith, ap (λ l. length l.registers) caller)
 
-pub overflow_add-b : goal.overflow_add-b
-overflow_add-b c = omega (arith, few_registers c.args.self.now c.requires.sized c.index-self-top.result)
-
-pub read-v-requires : goal.read-v-requires
-read-v-requires c =
+pub begin-requires : goal.begin-requires
+begin-requires c =
     let s = c.args.self.now in
-    argument_there s c.requires.sized (room_above s c.requires.room) c.begin.new.self c.args.routine c.args.b c.args.count c.requires.there
-    c.loop-k.k c.loop-k.self.frames c.loop-k.invariant.0 c.index-self-top.result c.loop-k-test.true
+    let caller = calling s (omega arith) _ _ (room_above s c.requires.room) c.split_at_mut-below.ensures.front c.split_at_mut-below.ensures.back c.index-below-caller.result in
+    omega (arith, ap (λ l. length l.registers) caller, few_registers (get_or c.split_at_mut-below.result.0.now s.top.index c.index-below-caller.result))
 
-pub listed-in-loop-k-2 : goal.listed-in-loop-k-2
-listed-in-loop-k-2 c = omega (arith, room_above c.args.self.now c.requires.room, c.loop-k.invariant.0.whole)
-
-pub bounds-self-above-in-loop-k : goal.bounds-self-above-in-loop-k
-bounds-self-above-in-loop-k c = room_above c.args.self.now c.requires.room
-
-pub append-requires : goal.append-requires
-append-requires c =
-    let s = c.args.self.now in
-    argument_room s c.requires.sized (room_above s c.requires.room) c.begin.new.self c.args.routine c.args.b c.args.count c.requires.there
-    c.loop-k.k c.loop-k.self.frames c.loop-k.invariant.0 c.index-self-above-in-loop-k.result c.loop-k-test.true
-
-pub loop-k-preserved : goal.loop-k-preserved
-loop-k-preserved c =
-    let s = c.args.self.now in (
-      argument_next s c.requires.sized (room_above s c.requires.room) c.begin.new.self c.args.routine c.args.b c.args.count c.requires.there
-          c.loop-k.k c.loop-k.self.frames c.loop-k.invariant.0 c.index-self-top.result c.index-self-above-in-loop-k.result c.append.new.self
-          c.read-v.result c.loop-k-test.true c.read-v.ensures c.append.ensures,
-      c.loop-k.invariant.1,
-    )
+pub invariant_of-self : goal.invariant_of-self
+invariant_of-self c = record { nested = omega (arith, room_above c.args.self.now c.requires.room) }
 
 pub returns : goal.returns
 unfolding running waiting
 returns c =
     let s = c.args.self.now in
-    let h = room_above s c.requires.room in
-    let f = c.begin.new.self in
-    let a = c.args in
-    let all : c.loop-k.k ≡ a.count = omega arith in
-    let G = c.loop-k.self.frames in
-    let begun = c.loop-k.invariant.0 in
+    let room = room_above s c.requires.room in
+    let front = c.split_at_mut-below.ensures.front in
+    let back = c.split_at_mut-below.ensures.back in
+    let caller = calling s (omega arith) _ _ room front back c.index-below-caller.result in
     record {
-      running = entered_running s c.requires.sized h f a.routine a.b a.count c.requires.there c.loop-k.k G begun all;
-      waiting = entered_waiting s c.requires.sized h f a.routine a.b a.count c.requires.there c.loop-k.k G begun;
-      sized = record { nested = h; whole = begun.whole };
+      running = begun_running s (omega arith) _ _ room front back c.begin.new.self ∙ c.begin.ensures ∙ ap (λ rs. level c.args.routine 0 (variables rs)) c.span.ensures.registers ∙ ap (λ l. level c.args.routine 0 (copied l.registers c.args.b c.args.count)) caller;
+      waiting = begun_waiting s (omega arith) _ _ room front back c.begin.new.self;
     }

@@ -1,81 +1,48 @@
-use Rattle.std.proofs.Common.{◌≡◌, ◌-◌, length, drop, sym, refl, ap, ◌∙◌, arith, length-set}
-use Rattle.machine.specs.Level.{onward, given, values_from}
-use Rattle.machine.specs.Nested.{level_at, running, waiting}
-use Rattle.machine.proofs.Handing.{some_waits, first_waiting, few_registers, few_at, taken_none, taken_more, result_there, result_room}
-use Rattle.machine.proofs.Tops.{level_at_lem, below_set, below_split, set_same}
+use Rattle.std.proofs.Common.{length, map, take, drop, ap, ◌∙◌, arith}
+use Rattle.machine.specs.Level.{value_of, onward, given}
+use Rattle.machine.specs.Nested.{running, waiting}
+use Rattle.machine.proofs.Frames.{some_waits, ending, going_on, ended_running, ended_waiting}
 use Rattle.machine.proofs.stack.Stack.leave.Goals as goal
 
-pub overflow_sub-caller : goal.overflow_sub-caller
-overflow_sub-caller c = some_waits c.args.self.now c.requires.some
+pub overflow_sub-index : goal.overflow_sub-index
+overflow_sub-index c = some_waits c.args.self.now c.requires.some
 
-pub loop-k-init : goal.loop-k-init
-loop-k-init c =
+pub bounds-below-index : goal.bounds-below-index
+bounds-below-index c = omega (arith, some_waits c.args.self.now c.requires.some, c.split_at_mut-below.ensures.front_len)
+
+pub span-requires : goal.span-requires
+span-requires c =
     let s = c.args.self.now in
-    (taken_none s.frames s.top (s.top - 1) c.args.a c.args.into c.requires.sized.whole, refl)
+    let ended = ending s (omega arith) _ _ (some_waits s c.requires.some) c.split_at_mut-below.ensures.front c.split_at_mut-below.ensures.back c.index-above-0.result in
+    omega (arith, ap (λ l. length l.registers) ended)
 
-pub overflow_add-a : goal.overflow_add-a
-overflow_add-a c = omega (arith, few_registers c.args.self.now c.requires.sized c.index-self-top.result)
-
-pub read-v-requires : goal.read-v-requires
-unfolding running
-read-v-requires c =
+pub take-requires : goal.take-requires
+take-requires c =
     let s = c.args.self.now in
-    let some = some_waits s c.requires.some in
-    result_there s.frames s.top (s.top - 1) c.args.a c.args.into c.loop-k.k c.loop-k.self.frames c.loop-k.invariant.0
-    (omega arith) c.requires.sized.nested (omega (arith, c.requires.there)) c.index-self-top.result
-
-pub overflow_add-into : goal.overflow_add-into
-overflow_add-into c =
-    let s = c.args.self.now in
-    let some = some_waits s c.requires.some in
-    omega (arith, few_at s.frames (s.top - 1) c.index-self-caller.result (omega (arith, c.requires.sized.nested, c.requires.sized.whole)), ap (λ l. length l.registers) (first_waiting s some))
-
-pub put-requires : goal.put-requires
-unfolding running
-put-requires c =
-    let s = c.args.self.now in
-    let some = some_waits s c.requires.some in
-    result_room s.frames s.top (s.top - 1) c.args.a c.args.into c.loop-k.k c.loop-k.self.frames c.loop-k.invariant.0
-    (omega arith) c.requires.sized.nested (omega (arith, c.requires.there)) c.index-self-caller.result
-    (omega (arith, c.requires.room, ap (λ l. length l.registers) (first_waiting s some)))
-
-pub loop-k-preserved : goal.loop-k-preserved
-unfolding running
-loop-k-preserved c =
-    let s = c.args.self.now in
-    let some = some_waits s c.requires.some in (
-      taken_more s.frames s.top (s.top - 1) c.args.a c.args.into c.loop-k.k c.loop-k.self.frames c.loop-k.invariant.0
-          (omega arith) c.requires.sized.nested (omega (arith, c.requires.there))
-          c.index-self-top.result c.index-self-caller.result c.put.new.self c.read-v.result c.read-v.ensures c.put.ensures,
-      c.loop-k.invariant.1,
-    )
+    let caller = going_on s (omega arith) _ _ (some_waits s c.requires.some) c.split_at_mut-below.ensures.front c.split_at_mut-below.ensures.back c.index-below-index.result in
+    omega (arith, ap (λ l. length l.registers) caller)
 
 pub skip-requires : goal.skip-requires
 skip-requires c =
     let s = c.args.self.now in
-    let some = some_waits s c.requires.some in
-    let taken = c.loop-k.invariant.0 in
-    let w = taken.whole in
-    let now = sym (level_at_lem c.loop-k.self.frames (s.top - 1) c.index-self-caller-2.result (omega (arith, c.requires.sized.nested))) ∙ taken.takes in
-    omega (arith, ap (λ l. l.pc) now, ap (λ l. l.pc) (first_waiting s some), c.requires.place)
+    let caller = going_on s (omega arith) _ _ (some_waits s c.requires.some) c.split_at_mut-below.ensures.front c.split_at_mut-below.ensures.back c.index-below-index.result in
+    omega (arith, ap (λ l. l.pc) caller, ap (λ l. l.pc) c.take.ensures)
 
 pub returns : goal.returns
 unfolding running waiting
 returns c =
     let s = c.args.self.now in
     let some = some_waits s c.requires.some in
-    let taken = c.loop-k.invariant.0 in
-    let w = taken.whole in
-    let G = c.loop-k.self.frames in
-    let all : c.loop-k.k ≡ c.args.count = omega arith in
-    let now = sym (level_at_lem G (s.top - 1) c.index-self-caller-2.result (omega (arith, c.requires.sized.nested))) ∙ taken.takes in
-    let first = first_waiting s some in
+    let front = c.split_at_mut-below.ensures.front in
+    let back = c.split_at_mut-below.ensures.back in
+    let ended = ending s (omega arith) _ _ some front back c.index-above-0.result in
+    let caller = going_on s (omega arith) _ _ some front back c.index-below-index.result in
+    let results = c.span.ensures.registers ∙ ap (λ l. take c.args.count (drop c.args.a l.registers)) ended in
     record {
       running =
-          set_same G (s.top - 1) c.skip.new.self (omega (arith, c.requires.sized.nested))
+          ended_running s (omega arith) _ _ some front back c.skip.new.self
           ∙ c.skip.ensures
-          ∙ ap (λ l. onward l l.registers) now
-          ∙ (λ i. onward (sym first i) (given (sym first i).registers c.args.into (values_from (level_at s.frames s.top).registers c.args.a (all i))));
-      waiting = below_set G (s.top - 1) (s.top - 1) c.skip.new.self (omega arith) ∙ taken.others ∙ sym (ap (drop 1) (below_split s.frames s.top some));
-      sized = record { nested = omega (arith, c.requires.sized.nested); whole = length-set G (s.top - 1) c.skip.new.self ∙ w };
+          ∙ ap (λ l. onward l l.registers) c.take.ensures
+          ∙ (λ i. onward (caller i) (given (caller i).registers c.args.into (map value_of (results i))));
+      waiting = ended_waiting s (omega arith) _ _ some front back c.skip.new.self;
     }
