@@ -5,3 +5,4 @@ pub mod Legal
 pub mod Runs
 pub mod Soundness
 pub mod Steps
+pub mod Words

@@ -6,21 +6,11 @@ ghost use Rattle.machine.specs.Memory.{fits, loading, storing, loaded, stored};
 use crate::memory::{BYTES, Memory};
 use isa::instr::Width;
 
-fn length(width: Width) -> u64
-    ensures { result ≡ bytes_of width }
-{
-    match width {
-        Width::One => 1,
-        Width::Two => 2,
-        Width::Four => 4,
-    }
-}
-
 // Whether an access lies in memory.
 fn is_inside(address: u64, width: Width) -> bool
     ensures { result ≡ fits address width }
 {
-    address <= BYTES as u64 - length(width)
+    address <= BYTES as u64 - u64::from(u8::from(width))
 }
 
 impl Memory {
@@ -42,18 +32,11 @@ impl Memory {
         requires { at + bytes_of width ≤ 4096 }
         ensures { self.new.bytes ≡ stored self.old.bytes at width v }
     {
+        let [b0, b1, b2, b3] = v.to_le_bytes();
         match width {
-            Width::One => self.bytes[at] = (v % 256) as u8,
-            Width::Two => {
-                self.bytes[at] = (v % 256) as u8;
-                self.bytes[at + 1] = (v / 256 % 256) as u8;
-            }
-            Width::Four => {
-                self.bytes[at] = (v % 256) as u8;
-                self.bytes[at + 1] = (v / 256 % 256) as u8;
-                self.bytes[at + 2] = (v / 65536 % 256) as u8;
-                self.bytes[at + 3] = (v / 16777216) as u8;
-            }
+            Width::One => self.bytes[at] = b0,
+            Width::Two => self.bytes[at..at + 2].copy_from_slice(&[b0, b1]),
+            Width::Four => self.bytes[at..at + 4].copy_from_slice(&[b0, b1, b2, b3]),
         }
     }
 
