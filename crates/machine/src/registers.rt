@@ -50,9 +50,8 @@ impl Frame {
     pub(crate) fn register(&self, k: u8) -> Option<u32>
         ensures { result ≡ register_of (level_of self.now) k }
     {
-        self.registers()
-            .get(k as usize)
-            .map(|register| register.value())
+        let register = self.registers().get(k as usize)?;
+        Some(register.value())
     }
 
     pub(crate) fn read(&self, a: u8) -> u32

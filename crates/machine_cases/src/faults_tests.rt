@@ -37,32 +37,23 @@ fn tells(rt: &impl Abort, cause: Cause, number: u8, layer: u8, detail: u64) {
 
 // Wants the fault at place i to have been added by `filled` for this address, and to have this mark.
 fn shows(rt: &impl Abort, list: &FaultList, i: usize, address: u16, mark: u8) -> Result<(), Fail> {
-    match list.get(i) {
-        None => Err(Fail::new("no fault at this place")),
-        Some(fault) => {
-            tells(rt, fault.cause, 2, 2, u64::from(address));
-            assert_eq!(rt; fault.place.routine, 1);
-            assert_eq!(rt; fault.place.instruction, address);
-            assert_eq!(rt; fault.mark(), mark);
-            Ok(())
-        }
-    }
+    let Some(fault) = list.get(i) else {
+        return Err(Fail::new("no fault at this place"));
+    };
+    tells(rt, fault.cause, 2, 2, u64::from(address));
+    assert_eq!(rt; fault.place.routine, 1);
+    assert_eq!(rt; fault.place.instruction, address);
+    assert_eq!(rt; fault.mark(), mark);
+    Ok(())
 }
 
-// Wants this many faults, of `filled`, from this address on, all with this mark.
-fn holds(
-    rt: &impl Abort,
-    list: &FaultList,
-    count: usize,
-    first: u16,
-    mark: u8,
-) -> Result<(), Fail> {
-    assert_eq!(rt; list.len(), count);
-    let mut address = first;
-    for i in 0..count {
+// Wants the faults of `filled` from one address to before another, all with this mark.
+fn holds(rt: &impl Abort, list: &FaultList, first: u16, end: u16, mark: u8) -> Result<(), Fail> {
+    for (i, address) in (first..end).enumerate() {
         shows(rt, list, i, address, mark)?;
-        address = address.wrapping_add(1);
     }
+    let count = usize::from(end.saturating_sub(first));
+    assert_eq!(rt; list.len(), count);
     assert!(rt; list.get(count).is_none());
     assert!(rt; list.get(usize::MAX).is_none());
     Ok(())
@@ -152,21 +143,21 @@ fn one_fault(rt: HostRuntime) -> Result<(), Fail> {
 
 #[test]
 fn sixteen_faults_are_all_kept(rt: HostRuntime) -> Result<(), Fail> {
-    holds(&rt, &filled(15), 15, 0, 0)?;
-    holds(&rt, &filled(16), 16, 0, 0)
+    holds(&rt, &filled(15), 0, 15, 0)?;
+    holds(&rt, &filled(16), 0, 16, 0)
 }
 
 #[test]
 fn a_seventeenth_pushes_out_the_oldest(rt: HostRuntime) -> Result<(), Fail> {
-    holds(&rt, &filled(17), 16, 1, 0)
+    holds(&rt, &filled(17), 1, 17, 0)
 }
 
 #[test]
 fn of_twenty_the_newest_sixteen_are_kept(rt: HostRuntime) -> Result<(), Fail> {
     let mut list = filled(20);
-    holds(&rt, &list, 16, 4, 0)?;
+    holds(&rt, &list, 4, 20, 0)?;
     list.cycle();
-    holds(&rt, &list, 16, 4, 1)?;
+    holds(&rt, &list, 4, 20, 1)?;
     list.cycle();
     holds(&rt, &list, 0, 0, 0)
 }
@@ -175,7 +166,7 @@ fn of_twenty_the_newest_sixteen_are_kept(rt: HostRuntime) -> Result<(), Fail> {
 fn three_cycles(rt: HostRuntime) -> Result<(), Fail> {
     let mut list = filled(2);
     list.cycle();
-    holds(&rt, &list, 2, 0, 1)?;
+    holds(&rt, &list, 0, 2, 1)?;
     list.add(
         Cause::MemoryPassed { address: 5 },
         Place {
@@ -188,7 +179,7 @@ fn three_cycles(rt: HostRuntime) -> Result<(), Fail> {
     shows(&rt, &list, 1, 1, 1)?;
     shows(&rt, &list, 2, 5, 0)?;
     list.cycle();
-    holds(&rt, &list, 1, 5, 1)?;
+    holds(&rt, &list, 5, 6, 1)?;
     list.cycle();
     holds(&rt, &list, 0, 0, 0)
 }
@@ -209,5 +200,5 @@ fn a_fault_more_pushes_out_a_marked_one(rt: HostRuntime) -> Result<(), Fail> {
     shows(&rt, &list, 14, 15, 1)?;
     shows(&rt, &list, 15, 16, 0)?;
     list.cycle();
-    holds(&rt, &list, 1, 16, 1)
+    holds(&rt, &list, 16, 17, 1)
 }

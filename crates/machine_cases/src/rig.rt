@@ -30,8 +30,7 @@ impl<'a> Rig<'a> {
                 self.machine.step(&self.checked, host);
                 true
             }
-            State::Ended => false,
-            State::Tripped { .. } => false,
+            State::Ended | State::Tripped { .. } => false,
         }
     }
 

@@ -11,51 +11,40 @@ use packing::parts::Parts;
 use std::process::Abort;
 use std::test::Fail;
 
-// How a run stopped: cause, layer, routine, instruction and detail of a trip, or zeros.
+// Cause, layer, routine, instruction and detail of a trip.
+type Trip = (u8, u8, u16, u16, u64);
+
+// How a run stopped: after how many steps, with which trip, and with what in register 0 and in byte 0 of memory.
 #[derive(Clone, Copy, PartialEq, Eq, Debug)]
 struct Stop {
     steps: u32,
-    tripped: bool,
-    trip: (u8, u8, u16, u16, u64),
-    // Register 0, and byte 0 of memory.
+    trip: Option<Trip>,
     register: Option<u32>,
     byte: Option<u8>,
 }
 
-fn trip_of(state: State) -> (bool, (u8, u8, u16, u16, u64)) {
+fn trip_of(state: State) -> Option<Trip> {
     match state {
-        State::Tripped { cause, place } => (
-            true,
-            (
-                cause.number(),
-                u8::from(cause.layer()),
-                place.routine,
-                place.instruction,
-                cause.detail(),
-            ),
-        ),
-        _ => (false, (0, 0, 0, 0, 0)),
+        State::Tripped { cause, place } => Some((
+            cause.number(),
+            cause.layer().into(),
+            place.routine,
+            place.instruction,
+            cause.detail(),
+        )),
+        State::Running | State::Ended => None,
     }
 }
 
 // Steps a module until it stops, or so many times.
 fn stop_of<H: Host>(bytes: &[u8], host: &mut H, most: u32) -> Result<Stop, Fail> {
     let mut sheet = [ShapeRow::BLANK; 64];
-    let Ok(opened) = open(bytes) else {
-        return Err(Fail::new("not opened"));
-    };
-    match opened.check(&mut sheet) {
-        Ok(()) => {}
-        Err(_) => return Err(Fail::new("not checked")),
-    }
-    let mut rig = Rig::begin(opened.take());
+    let mut rig = Rig::begin(open(bytes)?.into_checked(&mut sheet)?);
     for steps in 0..most {
         if !rig.advance(host) {
-            let (tripped, trip) = trip_of(rig.state());
             return Ok(Stop {
                 steps,
-                tripped,
-                trip,
+                trip: trip_of(rig.state()),
                 register: rig.register(0),
                 byte: rig.byte(0),
             });
@@ -65,12 +54,13 @@ fn stop_of<H: Host>(bytes: &[u8], host: &mut H, most: u32) -> Result<Stop, Fail>
 }
 
 // The same for a module of these parts.
-fn stop_at<H: Host>(
+fn stop_within<H: Host>(
     rt: &impl Abort,
     entries: &[Entry],
     rows: &[Row],
     image: &[u8],
     host: &mut H,
+    most: u32,
 ) -> Result<Stop, Fail> {
     let mut bytes = [0; 512];
     let parts = Parts {
@@ -78,13 +68,20 @@ fn stop_at<H: Host>(
         rows,
         image,
     };
-    match pack(parts, &mut bytes) {
-        Ok(length) => {
-            assert!(rt; length <= 512);
-            stop_of(&bytes[0..length], host, 1000)
-        }
-        Err(_) => Err(Fail::new("not packed")),
-    }
+    let length = pack(parts, &mut bytes)?;
+    assert!(rt; length <= 512);
+    stop_of(&bytes[..length], host, most)
+}
+
+// The same within 1000 steps.
+fn stop_at<H: Host>(
+    rt: &impl Abort,
+    entries: &[Entry],
+    rows: &[Row],
+    image: &[u8],
+    host: &mut H,
+) -> Result<Stop, Fail> {
+    stop_within(rt, entries, rows, image, host, 1000)
 }
 
 fn row(op: u8, a: u8, b: u8, c: u8, n: u32) -> Row {
@@ -112,16 +109,15 @@ fn with_constant(rt: &impl Abort, n: u32, row_3: Row) -> Result<Stop, Fail> {
 }
 
 // Wants the run to end, after which there is no register.
-fn ends(rt: &impl Abort, stop: Stop, steps: u32) -> Result<(), Fail> {
+fn ends(rt: &impl Abort, stop: Stop, steps: u32) {
     assert_eq!(rt; stop.register, None);
-    assert_eq!(rt; (stop.steps, stop.tripped), (steps, false));
-    Ok(())
+    assert_eq!(rt; (stop.steps, stop.trip), (steps, None));
 }
 
 // Wants the run to trip, with 0 in register 0.
-fn trips(rt: &impl Abort, stop: Stop, steps: u32, trip: (u8, u8, u16, u16, u64)) {
+fn trips(rt: &impl Abort, stop: Stop, steps: u32, trip: Trip) {
     assert_eq!(rt; stop.register, Some(0));
-    assert_eq!(rt; (stop.steps, stop.tripped, stop.trip), (steps, true, trip));
+    assert_eq!(rt; (stop.steps, stop.trip), (steps, Some(trip)));
 }
 
 #[test]
@@ -131,8 +127,8 @@ fn accesses_at_the_end_of_memory(rt: HostRuntime) -> Result<(), Fail> {
             let load = with_constant(&rt, address, row(16, 0, 1, width, 0))?;
             let store = with_constant(&rt, address, row(17, 0, 1, width, 0))?;
             if address + u32::from(width) <= 4096 {
-                ends(&rt, load, 4)?;
-                ends(&rt, store, 4)?;
+                ends(&rt, load, 4);
+                ends(&rt, store, 4);
             } else {
                 let trip = (2, 2, 0, 2, u64::from(address));
                 trips(&rt, load, 3, trip);
@@ -158,7 +154,7 @@ fn an_address_never_wraps(rt: HostRuntime) -> Result<(), Fail> {
         3,
         trip,
     );
-    ends(&rt, with_constant(&rt, 4000, row(16, 0, 1, 4, 92))?, 4)?;
+    ends(&rt, with_constant(&rt, 4000, row(16, 0, 1, 4, 92))?, 4);
     trips(
         &rt,
         with_constant(&rt, 4000, row(16, 0, 1, 4, 93))?,
@@ -206,7 +202,8 @@ fn every_other_cause(rt: HostRuntime) -> Result<(), Fail> {
         3,
         (6, 3, 0, 2, 0),
     );
-    ends(&rt, with_constant(&rt, 3000, row(25, 0, 1, 0, 0))?, 4)
+    ends(&rt, with_constant(&rt, 3000, row(25, 0, 1, 0, 0))?, 4);
+    Ok(())
 }
 
 // Routine 1 calls itself as often as its argument says.
@@ -228,8 +225,8 @@ fn nested(rt: &impl Abort, calls: u32) -> Result<Stop, Fail> {
 
 #[test]
 fn nesting_of_32_and_33(rt: HostRuntime) -> Result<(), Fail> {
-    ends(&rt, nested(&rt, 0)?, 7)?;
-    ends(&rt, nested(&rt, 30)?, 187)?;
+    ends(&rt, nested(&rt, 0)?, 7);
+    ends(&rt, nested(&rt, 30)?, 187);
     trips(&rt, nested(&rt, 31)?, 157, (3, 2, 1, 4, 0));
     Ok(())
 }
@@ -246,7 +243,7 @@ fn a_ramp_moves_the_axis(rt: HostRuntime) -> Result<(), Fail> {
         row(23, 0, 0, 0, 0),
     ];
     let stop = stop_at(&rt, &[entry(6, 0, 0)], &rows, &[], &mut axis)?;
-    ends(&rt, stop, 6)?;
+    ends(&rt, stop, 6);
     assert_eq!(rt; axis.read(0), Ok(1200));
     assert_eq!(rt; axis.read(2), Ok(50));
     assert_eq!(rt; axis.read(3), Ok(50));
@@ -273,7 +270,7 @@ fn arguments_results_and_the_image(rt: HostRuntime) -> Result<(), Fail> {
     ];
     let entries = [entry(9, 0, 0), entry(2, 2, 2)];
     let stop = stop_at(&rt, &entries, &rows, &[30, 40], &mut axis)?;
-    ends(&rt, stop, 11)?;
+    ends(&rt, stop, 11);
     assert_eq!(rt; stop.byte, Some(30));
     assert_eq!(rt; axis.read(1), Ok(40));
     assert_eq!(rt; axis.read(0), Ok(30));
@@ -285,7 +282,6 @@ fn arguments_results_and_the_image(rt: HostRuntime) -> Result<(), Fail> {
 fn a_long_loop(rt: HostRuntime) -> Result<(), Fail> {
     let turns = 100_000;
     let mut axis = AxisHost::new();
-    let mut bytes = [0; 512];
     let rows = [
         row(0, 0, 0, 0, 0),
         row(0, 0, 0, 0, 0),
@@ -301,22 +297,9 @@ fn a_long_loop(rt: HostRuntime) -> Result<(), Fail> {
         row(23, 0, 0, 0, 0),
     ];
     let entries = [entry(10, 0, 0), entry(2, 2, 1)];
-    let parts = Parts {
-        entries: &entries,
-        rows: &rows,
-        image: &[],
-    };
-    match pack(parts, &mut bytes) {
-        Ok(length) => {
-            assert!(rt; length <= 512);
-            ends(
-                &rt,
-                stop_of(&bytes[0..length], &mut axis, 1_000_000)?,
-                700_005,
-            )
-        }
-        Err(_) => Err(Fail::new("not packed")),
-    }
+    let stop = stop_within(&rt, &entries, &rows, &[], &mut axis, 1_000_000)?;
+    ends(&rt, stop, 700_005);
+    Ok(())
 }
 
 // Stores 287454020 at address 8 with each width, and loads it with each.
@@ -339,7 +322,7 @@ fn stored_bytes_are_loaded(rt: HostRuntime) -> Result<(), Fail> {
             &rt,
             stop_at(&rt, &[entry(9, 0, 0)], &rows, &[], &mut axis)?,
             8,
-        )?;
+        );
     }
     Ok(())
 }
@@ -363,7 +346,7 @@ fn the_lowest_byte_stands_first(rt: HostRuntime) -> Result<(), Fail> {
             &rt,
             stop_at(&rt, &[entry(7, 0, 0)], &rows, &image, &mut axis)?,
             6,
-        )?;
+        );
     }
     Ok(())
 }
@@ -388,7 +371,7 @@ fn moves_and_signed_branches(rt: HostRuntime) -> Result<(), Fail> {
         &rt,
         stop_at(&rt, &[entry(10, 0, 0)], &rows, &[], &mut axis)?,
         9,
-    )?;
+    );
     assert_eq!(rt; axis.read(1), Ok(1));
     Ok(())
 }
@@ -409,5 +392,6 @@ fn ret_in_a_nested_routine_0_ends(rt: HostRuntime) -> Result<(), Fail> {
         row(18, 0, 0, 0, 1),
     ];
     let entries = [entry(7, 0, 0), entry(2, 0, 0)];
-    ends(&rt, stop_at(&rt, &entries, &rows, &[], &mut axis)?, 12)
+    ends(&rt, stop_at(&rt, &entries, &rows, &[], &mut axis)?, 12);
+    Ok(())
 }

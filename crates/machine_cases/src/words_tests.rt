@@ -7,187 +7,162 @@ use words::test::passes;
 // Words at the edges of shifts and of signed words.
 const WORDS: [u32; 8] = [0, 1, 31, 32, 33, 0x7FFFFFFF, 0x80000000, 0xFFFFFFFF];
 
-// Wants the results of an operation: two rows for each b, of four words c each.
-fn gives(rt: &impl Abort, operation: Operation, results: &[[u32; 4]; 16]) {
-    for i in 0..8 {
-        for j in 0..8 {
-            assert_eq!(rt;
-                calculate(operation, WORDS[i], WORDS[j]),
-                results[2 * i + j / 4][j % 4]
-            );
+// Wants the results of an operation: a row for each b, with a result for each c.
+fn gives(rt: &impl Abort, operation: Operation, results: &[[u32; 8]; 8]) {
+    for (b, row) in WORDS.iter().zip(results) {
+        for (c, result) in WORDS.iter().zip(row) {
+            assert_eq!(rt; calculate(operation, *b, *c), *result);
         }
     }
 }
 
-const SUMS: [[u32; 4]; 16] = [
-    [0, 1, 31, 32],
-    [33, 0x7FFFFFFF, 0x80000000, 0xFFFFFFFF],
-    [1, 2, 32, 33],
-    [34, 0x80000000, 0x80000001, 0],
-    [31, 32, 62, 63],
-    [64, 0x8000001E, 0x8000001F, 30],
-    [32, 33, 63, 64],
-    [65, 0x8000001F, 0x80000020, 31],
-    [33, 34, 64, 65],
-    [66, 0x80000020, 0x80000021, 32],
-    [0x7FFFFFFF, 0x80000000, 0x8000001E, 0x8000001F],
-    [0x80000020, 0xFFFFFFFE, 0xFFFFFFFF, 0x7FFFFFFE],
-    [0x80000000, 0x80000001, 0x8000001F, 0x80000020],
-    [0x80000021, 0xFFFFFFFF, 0, 0x7FFFFFFF],
-    [0xFFFFFFFF, 0, 30, 31],
-    [32, 0x7FFFFFFE, 0x7FFFFFFF, 0xFFFFFFFE],
+const SUMS: [[u32; 8]; 8] = [
+    [0, 1, 31, 32, 33, 0x7FFFFFFF, 0x80000000, 0xFFFFFFFF],
+    [1, 2, 32, 33, 34, 0x80000000, 0x80000001, 0],
+    [31, 32, 62, 63, 64, 0x8000001E, 0x8000001F, 30],
+    [32, 33, 63, 64, 65, 0x8000001F, 0x80000020, 31],
+    [33, 34, 64, 65, 66, 0x80000020, 0x80000021, 32],
+    [
+        0x7FFFFFFF, 0x80000000, 0x8000001E, 0x8000001F, 0x80000020, 0xFFFFFFFE, 0xFFFFFFFF,
+        0x7FFFFFFE,
+    ],
+    [
+        0x80000000, 0x80000001, 0x8000001F, 0x80000020, 0x80000021, 0xFFFFFFFF, 0, 0x7FFFFFFF,
+    ],
+    [
+        0xFFFFFFFF, 0, 30, 31, 32, 0x7FFFFFFE, 0x7FFFFFFF, 0xFFFFFFFE,
+    ],
 ];
 
-const DIFFERENCES: [[u32; 4]; 16] = [
-    [0, 0xFFFFFFFF, 0xFFFFFFE1, 0xFFFFFFE0],
-    [0xFFFFFFDF, 0x80000001, 0x80000000, 1],
-    [1, 0, 0xFFFFFFE2, 0xFFFFFFE1],
-    [0xFFFFFFE0, 0x80000002, 0x80000001, 2],
-    [31, 30, 0, 0xFFFFFFFF],
-    [0xFFFFFFFE, 0x80000020, 0x8000001F, 32],
-    [32, 31, 1, 0],
-    [0xFFFFFFFF, 0x80000021, 0x80000020, 33],
-    [33, 32, 2, 1],
-    [0, 0x80000022, 0x80000021, 34],
-    [0x7FFFFFFF, 0x7FFFFFFE, 0x7FFFFFE0, 0x7FFFFFDF],
-    [0x7FFFFFDE, 0, 0xFFFFFFFF, 0x80000000],
-    [0x80000000, 0x7FFFFFFF, 0x7FFFFFE1, 0x7FFFFFE0],
-    [0x7FFFFFDF, 1, 0, 0x80000001],
-    [0xFFFFFFFF, 0xFFFFFFFE, 0xFFFFFFE0, 0xFFFFFFDF],
-    [0xFFFFFFDE, 0x80000000, 0x7FFFFFFF, 0],
+const DIFFERENCES: [[u32; 8]; 8] = [
+    [
+        0, 0xFFFFFFFF, 0xFFFFFFE1, 0xFFFFFFE0, 0xFFFFFFDF, 0x80000001, 0x80000000, 1,
+    ],
+    [
+        1, 0, 0xFFFFFFE2, 0xFFFFFFE1, 0xFFFFFFE0, 0x80000002, 0x80000001, 2,
+    ],
+    [
+        31, 30, 0, 0xFFFFFFFF, 0xFFFFFFFE, 0x80000020, 0x8000001F, 32,
+    ],
+    [32, 31, 1, 0, 0xFFFFFFFF, 0x80000021, 0x80000020, 33],
+    [33, 32, 2, 1, 0, 0x80000022, 0x80000021, 34],
+    [
+        0x7FFFFFFF, 0x7FFFFFFE, 0x7FFFFFE0, 0x7FFFFFDF, 0x7FFFFFDE, 0, 0xFFFFFFFF, 0x80000000,
+    ],
+    [
+        0x80000000, 0x7FFFFFFF, 0x7FFFFFE1, 0x7FFFFFE0, 0x7FFFFFDF, 1, 0, 0x80000001,
+    ],
+    [
+        0xFFFFFFFF, 0xFFFFFFFE, 0xFFFFFFE0, 0xFFFFFFDF, 0xFFFFFFDE, 0x80000000, 0x7FFFFFFF, 0,
+    ],
 ];
 
-const PRODUCTS: [[u32; 4]; 16] = [
-    [0, 0, 0, 0],
-    [0, 0, 0, 0],
-    [0, 1, 31, 32],
-    [33, 0x7FFFFFFF, 0x80000000, 0xFFFFFFFF],
-    [0, 31, 0x3C1, 0x3E0],
-    [0x3FF, 0x7FFFFFE1, 0x80000000, 0xFFFFFFE1],
-    [0, 32, 0x3E0, 0x400],
-    [0x420, 0xFFFFFFE0, 0, 0xFFFFFFE0],
-    [0, 33, 0x3FF, 0x420],
-    [0x441, 0x7FFFFFDF, 0x80000000, 0xFFFFFFDF],
-    [0, 0x7FFFFFFF, 0x7FFFFFE1, 0xFFFFFFE0],
-    [0x7FFFFFDF, 1, 0x80000000, 0x80000001],
-    [0, 0x80000000, 0x80000000, 0],
-    [0x80000000, 0x80000000, 0, 0x80000000],
-    [0, 0xFFFFFFFF, 0xFFFFFFE1, 0xFFFFFFE0],
-    [0xFFFFFFDF, 0x80000001, 0x80000000, 1],
+const PRODUCTS: [[u32; 8]; 8] = [
+    [0, 0, 0, 0, 0, 0, 0, 0],
+    [0, 1, 31, 32, 33, 0x7FFFFFFF, 0x80000000, 0xFFFFFFFF],
+    [
+        0, 31, 0x3C1, 0x3E0, 0x3FF, 0x7FFFFFE1, 0x80000000, 0xFFFFFFE1,
+    ],
+    [0, 32, 0x3E0, 0x400, 0x420, 0xFFFFFFE0, 0, 0xFFFFFFE0],
+    [
+        0, 33, 0x3FF, 0x420, 0x441, 0x7FFFFFDF, 0x80000000, 0xFFFFFFDF,
+    ],
+    [
+        0, 0x7FFFFFFF, 0x7FFFFFE1, 0xFFFFFFE0, 0x7FFFFFDF, 1, 0x80000000, 0x80000001,
+    ],
+    [
+        0, 0x80000000, 0x80000000, 0, 0x80000000, 0x80000000, 0, 0x80000000,
+    ],
+    [
+        0, 0xFFFFFFFF, 0xFFFFFFE1, 0xFFFFFFE0, 0xFFFFFFDF, 0x80000001, 0x80000000, 1,
+    ],
 ];
 
-const ANDS: [[u32; 4]; 16] = [
-    [0, 0, 0, 0],
-    [0, 0, 0, 0],
-    [0, 1, 1, 0],
-    [1, 1, 0, 1],
-    [0, 1, 31, 0],
-    [1, 31, 0, 31],
-    [0, 0, 0, 32],
-    [32, 32, 0, 32],
-    [0, 1, 1, 32],
-    [33, 33, 0, 33],
-    [0, 1, 31, 32],
-    [33, 0x7FFFFFFF, 0, 0x7FFFFFFF],
-    [0, 0, 0, 0],
-    [0, 0, 0x80000000, 0x80000000],
-    [0, 1, 31, 32],
-    [33, 0x7FFFFFFF, 0x80000000, 0xFFFFFFFF],
+const ANDS: [[u32; 8]; 8] = [
+    [0, 0, 0, 0, 0, 0, 0, 0],
+    [0, 1, 1, 0, 1, 1, 0, 1],
+    [0, 1, 31, 0, 1, 31, 0, 31],
+    [0, 0, 0, 32, 32, 32, 0, 32],
+    [0, 1, 1, 32, 33, 33, 0, 33],
+    [0, 1, 31, 32, 33, 0x7FFFFFFF, 0, 0x7FFFFFFF],
+    [0, 0, 0, 0, 0, 0, 0x80000000, 0x80000000],
+    [0, 1, 31, 32, 33, 0x7FFFFFFF, 0x80000000, 0xFFFFFFFF],
 ];
 
-const ORS: [[u32; 4]; 16] = [
-    [0, 1, 31, 32],
-    [33, 0x7FFFFFFF, 0x80000000, 0xFFFFFFFF],
-    [1, 1, 31, 33],
-    [33, 0x7FFFFFFF, 0x80000001, 0xFFFFFFFF],
-    [31, 31, 31, 63],
-    [63, 0x7FFFFFFF, 0x8000001F, 0xFFFFFFFF],
-    [32, 33, 63, 32],
-    [33, 0x7FFFFFFF, 0x80000020, 0xFFFFFFFF],
-    [33, 33, 63, 33],
-    [33, 0x7FFFFFFF, 0x80000021, 0xFFFFFFFF],
-    [0x7FFFFFFF, 0x7FFFFFFF, 0x7FFFFFFF, 0x7FFFFFFF],
-    [0x7FFFFFFF, 0x7FFFFFFF, 0xFFFFFFFF, 0xFFFFFFFF],
-    [0x80000000, 0x80000001, 0x8000001F, 0x80000020],
-    [0x80000021, 0xFFFFFFFF, 0x80000000, 0xFFFFFFFF],
-    [0xFFFFFFFF, 0xFFFFFFFF, 0xFFFFFFFF, 0xFFFFFFFF],
-    [0xFFFFFFFF, 0xFFFFFFFF, 0xFFFFFFFF, 0xFFFFFFFF],
+const ORS: [[u32; 8]; 8] = [
+    [0, 1, 31, 32, 33, 0x7FFFFFFF, 0x80000000, 0xFFFFFFFF],
+    [1, 1, 31, 33, 33, 0x7FFFFFFF, 0x80000001, 0xFFFFFFFF],
+    [31, 31, 31, 63, 63, 0x7FFFFFFF, 0x8000001F, 0xFFFFFFFF],
+    [32, 33, 63, 32, 33, 0x7FFFFFFF, 0x80000020, 0xFFFFFFFF],
+    [33, 33, 63, 33, 33, 0x7FFFFFFF, 0x80000021, 0xFFFFFFFF],
+    [
+        0x7FFFFFFF, 0x7FFFFFFF, 0x7FFFFFFF, 0x7FFFFFFF, 0x7FFFFFFF, 0x7FFFFFFF, 0xFFFFFFFF,
+        0xFFFFFFFF,
+    ],
+    [
+        0x80000000, 0x80000001, 0x8000001F, 0x80000020, 0x80000021, 0xFFFFFFFF, 0x80000000,
+        0xFFFFFFFF,
+    ],
+    [
+        0xFFFFFFFF, 0xFFFFFFFF, 0xFFFFFFFF, 0xFFFFFFFF, 0xFFFFFFFF, 0xFFFFFFFF, 0xFFFFFFFF,
+        0xFFFFFFFF,
+    ],
 ];
 
-const XORS: [[u32; 4]; 16] = [
-    [0, 1, 31, 32],
-    [33, 0x7FFFFFFF, 0x80000000, 0xFFFFFFFF],
-    [1, 0, 30, 33],
-    [32, 0x7FFFFFFE, 0x80000001, 0xFFFFFFFE],
-    [31, 30, 0, 63],
-    [62, 0x7FFFFFE0, 0x8000001F, 0xFFFFFFE0],
-    [32, 33, 63, 0],
-    [1, 0x7FFFFFDF, 0x80000020, 0xFFFFFFDF],
-    [33, 32, 62, 1],
-    [0, 0x7FFFFFDE, 0x80000021, 0xFFFFFFDE],
-    [0x7FFFFFFF, 0x7FFFFFFE, 0x7FFFFFE0, 0x7FFFFFDF],
-    [0x7FFFFFDE, 0, 0xFFFFFFFF, 0x80000000],
-    [0x80000000, 0x80000001, 0x8000001F, 0x80000020],
-    [0x80000021, 0xFFFFFFFF, 0, 0x7FFFFFFF],
-    [0xFFFFFFFF, 0xFFFFFFFE, 0xFFFFFFE0, 0xFFFFFFDF],
-    [0xFFFFFFDE, 0x80000000, 0x7FFFFFFF, 0],
+const XORS: [[u32; 8]; 8] = [
+    [0, 1, 31, 32, 33, 0x7FFFFFFF, 0x80000000, 0xFFFFFFFF],
+    [1, 0, 30, 33, 32, 0x7FFFFFFE, 0x80000001, 0xFFFFFFFE],
+    [31, 30, 0, 63, 62, 0x7FFFFFE0, 0x8000001F, 0xFFFFFFE0],
+    [32, 33, 63, 0, 1, 0x7FFFFFDF, 0x80000020, 0xFFFFFFDF],
+    [33, 32, 62, 1, 0, 0x7FFFFFDE, 0x80000021, 0xFFFFFFDE],
+    [
+        0x7FFFFFFF, 0x7FFFFFFE, 0x7FFFFFE0, 0x7FFFFFDF, 0x7FFFFFDE, 0, 0xFFFFFFFF, 0x80000000,
+    ],
+    [
+        0x80000000, 0x80000001, 0x8000001F, 0x80000020, 0x80000021, 0xFFFFFFFF, 0, 0x7FFFFFFF,
+    ],
+    [
+        0xFFFFFFFF, 0xFFFFFFFE, 0xFFFFFFE0, 0xFFFFFFDF, 0xFFFFFFDE, 0x80000000, 0x7FFFFFFF, 0,
+    ],
 ];
 
-const LEFT: [[u32; 4]; 16] = [
-    [0, 0, 0, 0],
-    [0, 0, 0, 0],
-    [1, 2, 0x80000000, 0],
-    [0, 0, 0, 0],
-    [31, 62, 0x80000000, 0],
-    [0, 0, 0, 0],
-    [32, 64, 0, 0],
-    [0, 0, 0, 0],
-    [33, 66, 0x80000000, 0],
-    [0, 0, 0, 0],
-    [0x7FFFFFFF, 0xFFFFFFFE, 0x80000000, 0],
-    [0, 0, 0, 0],
-    [0x80000000, 0, 0, 0],
-    [0, 0, 0, 0],
-    [0xFFFFFFFF, 0xFFFFFFFE, 0x80000000, 0],
-    [0, 0, 0, 0],
+const LEFT: [[u32; 8]; 8] = [
+    [0, 0, 0, 0, 0, 0, 0, 0],
+    [1, 2, 0x80000000, 0, 0, 0, 0, 0],
+    [31, 62, 0x80000000, 0, 0, 0, 0, 0],
+    [32, 64, 0, 0, 0, 0, 0, 0],
+    [33, 66, 0x80000000, 0, 0, 0, 0, 0],
+    [0x7FFFFFFF, 0xFFFFFFFE, 0x80000000, 0, 0, 0, 0, 0],
+    [0x80000000, 0, 0, 0, 0, 0, 0, 0],
+    [0xFFFFFFFF, 0xFFFFFFFE, 0x80000000, 0, 0, 0, 0, 0],
 ];
 
-const RIGHT: [[u32; 4]; 16] = [
-    [0, 0, 0, 0],
-    [0, 0, 0, 0],
-    [1, 0, 0, 0],
-    [0, 0, 0, 0],
-    [31, 15, 0, 0],
-    [0, 0, 0, 0],
-    [32, 16, 0, 0],
-    [0, 0, 0, 0],
-    [33, 16, 0, 0],
-    [0, 0, 0, 0],
-    [0x7FFFFFFF, 0x3FFFFFFF, 0, 0],
-    [0, 0, 0, 0],
-    [0x80000000, 0x40000000, 1, 0],
-    [0, 0, 0, 0],
-    [0xFFFFFFFF, 0x7FFFFFFF, 1, 0],
-    [0, 0, 0, 0],
+const RIGHT: [[u32; 8]; 8] = [
+    [0, 0, 0, 0, 0, 0, 0, 0],
+    [1, 0, 0, 0, 0, 0, 0, 0],
+    [31, 15, 0, 0, 0, 0, 0, 0],
+    [32, 16, 0, 0, 0, 0, 0, 0],
+    [33, 16, 0, 0, 0, 0, 0, 0],
+    [0x7FFFFFFF, 0x3FFFFFFF, 0, 0, 0, 0, 0, 0],
+    [0x80000000, 0x40000000, 1, 0, 0, 0, 0, 0],
+    [0xFFFFFFFF, 0x7FFFFFFF, 1, 0, 0, 0, 0, 0],
 ];
 
-const SIGNED: [[u32; 4]; 16] = [
-    [0, 0, 0, 0],
-    [0, 0, 0, 0],
-    [1, 0, 0, 0],
-    [0, 0, 0, 0],
-    [31, 15, 0, 0],
-    [0, 0, 0, 0],
-    [32, 16, 0, 0],
-    [0, 0, 0, 0],
-    [33, 16, 0, 0],
-    [0, 0, 0, 0],
-    [0x7FFFFFFF, 0x3FFFFFFF, 0, 0],
-    [0, 0, 0, 0],
-    [0x80000000, 0xC0000000, 0xFFFFFFFF, 0xFFFFFFFF],
-    [0xFFFFFFFF, 0xFFFFFFFF, 0xFFFFFFFF, 0xFFFFFFFF],
-    [0xFFFFFFFF, 0xFFFFFFFF, 0xFFFFFFFF, 0xFFFFFFFF],
-    [0xFFFFFFFF, 0xFFFFFFFF, 0xFFFFFFFF, 0xFFFFFFFF],
+const SIGNED: [[u32; 8]; 8] = [
+    [0, 0, 0, 0, 0, 0, 0, 0],
+    [1, 0, 0, 0, 0, 0, 0, 0],
+    [31, 15, 0, 0, 0, 0, 0, 0],
+    [32, 16, 0, 0, 0, 0, 0, 0],
+    [33, 16, 0, 0, 0, 0, 0, 0],
+    [0x7FFFFFFF, 0x3FFFFFFF, 0, 0, 0, 0, 0, 0],
+    [
+        0x80000000, 0xC0000000, 0xFFFFFFFF, 0xFFFFFFFF, 0xFFFFFFFF, 0xFFFFFFFF, 0xFFFFFFFF,
+        0xFFFFFFFF,
+    ],
+    [
+        0xFFFFFFFF, 0xFFFFFFFF, 0xFFFFFFFF, 0xFFFFFFFF, 0xFFFFFFFF, 0xFFFFFFFF, 0xFFFFFFFF,
+        0xFFFFFFFF,
+    ],
 ];
 
 #[test]
@@ -214,10 +189,9 @@ const KINDS: [Kind; 3] = [Kind::Unsigned, Kind::TowardsZero, Kind::Downwards];
 
 // Wants the quotient and the remainder of b by c, of each kind.
 fn divides(rt: &impl Abort, b: u32, c: u32, results: &[(u32, u32); 3]) {
-    for k in 0..3 {
-        let (quotient, remainder) = results[k];
-        assert_eq!(rt; divide(Part::Quotient, KINDS[k], b, c), Some(quotient));
-        assert_eq!(rt; divide(Part::Remainder, KINDS[k], b, c), Some(remainder));
+    for (kind, (quotient, remainder)) in KINDS.iter().zip(results) {
+        assert_eq!(rt; divide(Part::Quotient, *kind, b, c), Some(*quotient));
+        assert_eq!(rt; divide(Part::Remainder, *kind, b, c), Some(*remainder));
     }
 }
 
@@ -277,10 +251,10 @@ fn quotients_and_remainders(rt: HostRuntime) {
 
 #[test]
 fn no_quotient_by_zero(rt: HostRuntime) {
-    for i in 0..8 {
-        for k in 0..3 {
-            assert_eq!(rt; divide(Part::Quotient, KINDS[k], WORDS[i], 0), None);
-            assert_eq!(rt; divide(Part::Remainder, KINDS[k], WORDS[i], 0), None);
+    for word in WORDS {
+        for kind in KINDS {
+            assert_eq!(rt; divide(Part::Quotient, kind, word, 0), None);
+            assert_eq!(rt; divide(Part::Remainder, kind, word, 0), None);
         }
     }
 }
