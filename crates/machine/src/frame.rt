@@ -15,6 +15,7 @@ pub enum Register {
 pub struct Frame {
     pub(crate) routine: usize,
     pub(crate) pc: usize,
+    // Fixed memory and a depth: nothing on the drive allocates.
     pub(crate) depth: usize,
     pub(crate) registers: [Register; 32],
     ghost few: { depth ≤ 32 },

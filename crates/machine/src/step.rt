@@ -1,5 +1,5 @@
 // One step of a running machine.
-ghost use Rattle.std.specs.Prelude.{◌≡◌, ℕ, ◌+◌, ◌<◌, true, List, length, Some, OnOk, OnErr, IfErr, ◌==◌};
+ghost use Rattle.std.specs.Prelude.{◌≡◌, ◌+◌, ◌<◌, true, List, length, Some, OnOk, OnErr, IfErr, ◌==◌};
 ghost use Rattle.host.specs.declared.port.Port.{Port};
 ghost use Rattle.faults.specs.Causes.{cause_of};
 ghost use Rattle.isa.specs.declared.instr.Instr.TheVariants.{Call, Ret};
@@ -21,16 +21,6 @@ use refusal::Place;
 use words::calculation::calculate;
 use words::division::divide;
 use words::test::passes;
-
-// Where a call wants its results.
-fn results_into(call: Instr) -> u8
-    ensures { (a b n : ℕ) → call ≡ Call a b n → result ≡ a }
-{
-    match call {
-        Instr::Call { a, .. } => a,
-        _ => 0,
-    }
-}
 
 impl Frame {
     // The instruction at which the routine stands.
@@ -108,10 +98,13 @@ impl Machine {
         let Some(call) = self.stack.caller().instruction(checked) else {
             unreachable()
         };
-        self.stack.leave(a, results_into(call), signature.results)
+        let Instr::Call { a: into, .. } = call else {
+            unreachable()
+        };
+        self.stack.leave(a, into, signature.results)
     }
 
-    // What an instruction does, or the cause for which it trips.
+    // What an instruction does, or the cause for which it trips. Each arm ends the function, so that each has its own proof.
     fn perform<H: Host>(
         &mut self,
         instr: Instr,

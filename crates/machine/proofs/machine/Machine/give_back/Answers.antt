@@ -58,14 +58,22 @@ unreachable-requires-in_default-instruction c =
     let there = stands_there c.args.checked.now c.args.self.now c.args.a c.requires.able c.requires.stands c.if-ends_run.ensures _ c.caller.ensures _ c.in_default-instruction.ensures in
     cc
 
+pub unreachable-requires-in_default-call : goal.unreachable-requires-in_default-call
+unreachable-requires-in_default-call c =
+    let w = waits c.args.checked.now c.args.self.now c.args.a c.requires.able c.requires.stands c.if-ends_run.ensures in
+    let there = stands_there c.args.checked.now c.args.self.now c.args.a c.requires.able c.requires.stands c.if-ends_run.ensures _ c.caller.ensures _ c.in-Some-instruction.ensures in
+    let is : c.in-Some-instruction.call ≡ Call w.a w.b (running c.args.self.now.stack).routine = cc in
+    c.in_default-call.not-Call w.a w.b (running c.args.self.now.stack).routine is
+
 pub leave-requires : goal.leave-requires
 leave-requires c =
     let r = ret c.args.checked.now c.args.self.now c.args.a c.requires.able c.requires.stands in
     let w = waits c.args.checked.now c.args.self.now c.args.a c.requires.able c.requires.stands c.if-ends_run.ensures in
     let n = count c.args.checked.now c.args.self.now c.args.a c.requires.able c.requires.stands c.in-Some.signature (c.in-Some.ensures ∙ ap (λ l. signature_at (bytes_of c.args.checked.now.opened) l.routine) c.running.ensures) in
     let there = stands_there c.args.checked.now c.args.self.now c.args.a c.requires.able c.requires.stands c.if-ends_run.ensures _ c.caller.ensures _ c.in-Some-instruction.ensures in
-    let is : c.in-Some-instruction.call ≡ Call w.a w.b (running c.args.self.now.stack).routine = cc in
-    let first : c.results_into.result ≡ w.a = c.results_into.ensures w.a w.b _ is in
+    let same : Some c.in-Some-instruction.call ≡ Some (Call w.a w.b (running c.args.self.now.stack).routine) = there in
+    let is = c.in-Call.is in
+    let first : c.in-Call.into ≡ w.a = cc in
     record {
       some = w.some;
       there = omega (arith, r.legal.fit.read);
@@ -83,8 +91,9 @@ returns c = λ rule ports.
     let w = waits c.args.checked.now m c.args.a c.requires.able c.requires.stands c.if-ends_run.ensures in
     let n = count c.args.checked.now m c.args.a c.requires.able c.requires.stands c.in-Some.signature (c.in-Some.ensures ∙ ap (λ l. signature_at (bytes_of c.args.checked.now.opened) l.routine) c.running.ensures) in
     let there = stands_there c.args.checked.now m c.args.a c.requires.able c.requires.stands c.if-ends_run.ensures _ c.caller.ensures _ c.in-Some-instruction.ensures in
-    let is : c.in-Some-instruction.call ≡ Call w.a w.b l.routine = cc in
-    let first : c.results_into.result ≡ w.a = c.results_into.ensures w.a w.b l.routine is in
+    let same : Some c.in-Some-instruction.call ≡ Some (Call w.a w.b (running c.args.self.now.stack).routine) = there in
+    let is = c.in-Call.is in
+    let first : c.in-Call.into ≡ w.a = cc in
     let wants : into bs g.routine (here bs g) ≡ w.a = ap (into bs g.routine) w.caller.stands in
     let vs = values_from l.registers c.args.a (results bs l.routine) in
     went c.requires.running refl
