@@ -10,7 +10,7 @@ use Rattle.module.specs.Accepted.{accepted}
 use Rattle.module.specs.Told.{bytes_of}
 use Rattle.module.specs.Layout.{routines, count, instr}
 use Rattle.module.specs.Places.{inside, instr_at}
-use Rattle.module.proofs.Accepts.{accepts_laid}
+use Rattle.module.proofs.Accepts.{accepts_laid, accepts_checked}
 use Rattle.module.specs.Rules.{stacks, calls, access_in, both, fits, registers, constants}
 use Rattle.machine.specs.declared.frame.Register.{Register}
 use Rattle.machine.specs.Level.{Level, level_of, is_constant}
@@ -107,7 +107,7 @@ module _ (bs : List ℕ) (ok : accepted bs ≡ true) where
 -- the running routine of a machine over a checked module
 pub stands_ready : (checked : Checked) (m : Machine) (x : Instr) {y : Instr} → able (bytes_of checked.opened) (running m.stack) (waiting m.stack) ≡ true →
     here (bytes_of checked.opened) (running m.stack) ≡ Some x → x ≡ y → Ready (bytes_of checked.opened) (running m.stack) y
-stands_ready checked m x h e is = ready (bytes_of checked.opened) checked.keeps (running m.stack) (waiting m.stack) x _ h e is
+stands_ready checked m x h e is = ready (bytes_of checked.opened) (accepts_checked checked) (running m.stack) (waiting m.stack) x _ h e is
 
 -- the same by its frame
 pub frame_ready : (checked : Checked) (m : Machine) (x : Instr) {y : Instr} (d : Frame) → length m.stack.frames ≡ 32 →

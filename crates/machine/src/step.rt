@@ -114,11 +114,10 @@ impl Machine {
         requires running { self.old.state ≡ Running }
         requires stands { here (bytes_of checked.now.opened) (running self.old.stack) ≡ Some instr }
         requires able { able (bytes_of checked.now.opened) (running self.old.stack) (waiting self.old.stack) ≡ true }
-        ensures done { OnOk result (Makes (bytes_of checked.now.opened) (H.rule host.old) instr self.old (H.ports host.old) self.new (H.ports host.new)) }
-        ensures tripped { IfErr result (λ cause. effect_in (bytes_of checked.now.opened) (H.rule host.old) instr self.old (H.ports host.old) ≡ trips (cause_of cause)) }
+        ensures done { OnOk result (Makes (bytes_of checked.now.opened) (H.rule (H.base host.old)) instr self.old (H.ports host.old) self.new (H.ports host.new)) }
+        ensures tripped { IfErr result (λ cause. effect_in (bytes_of checked.now.opened) (H.rule (H.base host.old)) instr self.old (H.ports host.old) ≡ trips (cause_of cause)) }
         ensures unchanged { OnErr result (self.new ≡ self.old) }
         ensures rested { OnErr result (H.ports host.new ≡ H.ports host.old) }
-        ensures rule { H.rule host.new ≡ H.rule host.old }
         ensures base { H.base host.new ≡ H.base host.old }
     {
         let running = &mut self.stack.frames[self.stack.top.index];

@@ -7,6 +7,7 @@ use Rattle.module.specs.declared.checked.Checked.{Checked}
 use Rattle.module.specs.Layout.{results, signature}
 use Rattle.module.specs.Places.{signature_at}
 use Rattle.module.specs.Told.{bytes_of}
+use Rattle.module.proofs.Accepts.{accepts_checked}
 use Rattle.module.proofs.At.{a_signature}
 use Rattle.machine.specs.declared.machine.Machine.{Machine}
 use Rattle.machine.specs.Level.{Level, onward, given, values_from}
@@ -32,7 +33,7 @@ module _ (checked : Checked) (m : Machine) (a : ℕ) (can : able (bytes_of check
 
   module _ (other : false ≡ eqb (running m.stack).routine 0) where
     waits : Waits (bytes_of checked.opened) (running m.stack).routine (waiting m.stack)
-    waits = returning (bytes_of checked.opened) checked.keeps (running m.stack) (waiting m.stack) a can stands (eqb-false _ 0 (sym other))
+    waits = returning (bytes_of checked.opened) (accepts_checked checked) (running m.stack) (waiting m.stack) a can stands (eqb-false _ 0 (sym other))
 
     module _ (l : Level) (first : l ≡ first_of (waiting m.stack)) (answer : Option Instr) (is : answer ≡ here (bytes_of checked.opened) l) where
       stands_there : answer ≡ Some (Call waits.a waits.b (running m.stack).routine)

@@ -373,7 +373,7 @@ returns-in-Call-clause-done g c =
     let m = c.args.self.now in
     let same = put_back m (omega arith) c.index-self-self.result in
     rw c.in-Call.is
-    (on_ok_weaker c.call.result (λ does. subst (λ (n : Machine). Makes (bytes_of c.args.checked.now.opened) (g.H.Host.rule c.args.host.now) (Call c.in-Call.a c.in-Call.b c.in-Call.n) n (g.H.Host.ports c.args.host.now) c.call.new.self (g.H.Host.ports c.args.host.now)) same (does (g.H.Host.rule c.args.host.now) (g.H.Host.ports c.args.host.now))) c.call.ensures.done)
+    (on_ok_weaker c.call.result (λ does. subst (λ (n : Machine). Makes (bytes_of c.args.checked.now.opened) (g.H.Host.rule (g.H.Host.base c.args.host.now)) (Call c.in-Call.a c.in-Call.b c.in-Call.n) n (g.H.Host.ports c.args.host.now) c.call.new.self (g.H.Host.ports c.args.host.now)) same (does (g.H.Host.rule (g.H.Host.base c.args.host.now)) (g.H.Host.ports c.args.host.now))) c.call.ensures.done)
 
 pub returns-in-Call-clause-tripped : goal.returns-in-Call-clause-tripped
 returns-in-Call-clause-tripped g c =
@@ -381,7 +381,7 @@ returns-in-Call-clause-tripped g c =
     let same = put_back m (omega arith) c.index-self-self.result in
     rw c.in-Call.is
     (IfErr-weaker c.call.result _ _
-    (λ cause tripped. ap (λ (n : Machine). effect_in (bytes_of c.args.checked.now.opened) (g.H.Host.rule c.args.host.now) (Call c.in-Call.a c.in-Call.b c.in-Call.n) n (g.H.Host.ports c.args.host.now)) (sym same) ∙ tripped (g.H.Host.rule c.args.host.now) (g.H.Host.ports c.args.host.now)) c.call.ensures.tripped)
+    (λ cause tripped. ap (λ (n : Machine). effect_in (bytes_of c.args.checked.now.opened) (g.H.Host.rule (g.H.Host.base c.args.host.now)) (Call c.in-Call.a c.in-Call.b c.in-Call.n) n (g.H.Host.ports c.args.host.now)) (sym same) ∙ tripped (g.H.Host.rule (g.H.Host.base c.args.host.now)) (g.H.Host.ports c.args.host.now)) c.call.ensures.tripped)
 
 pub returns-in-Call-clause-unchanged : goal.returns-in-Call-clause-unchanged
 returns-in-Call-clause-unchanged g c =
@@ -393,7 +393,7 @@ pub returns-in-Ret-clause-done : goal.returns-in-Ret-clause-done
 returns-in-Ret-clause-done g c =
     let m = c.args.self.now in
     let same = put_back m (omega arith) c.index-self-self.result in
-    rw c.in-Ret.is (subst (λ (n : Machine). Makes (bytes_of c.args.checked.now.opened) (g.H.Host.rule c.args.host.now) (Ret c.in-Ret.a) n (g.H.Host.ports c.args.host.now) c.give_back.new.self (g.H.Host.ports c.args.host.now)) same (c.give_back.ensures (g.H.Host.rule c.args.host.now) (g.H.Host.ports c.args.host.now)))
+    rw c.in-Ret.is (subst (λ (n : Machine). Makes (bytes_of c.args.checked.now.opened) (g.H.Host.rule (g.H.Host.base c.args.host.now)) (Ret c.in-Ret.a) n (g.H.Host.ports c.args.host.now) c.give_back.new.self (g.H.Host.ports c.args.host.now)) same (c.give_back.ensures (g.H.Host.rule (g.H.Host.base c.args.host.now)) (g.H.Host.ports c.args.host.now)))
 
 pub returns-in_err-v-in-Get-clause-tripped : goal.returns-in_err-v-in-Get-clause-tripped
 unfolding effect

@@ -30,7 +30,7 @@ returns-in-Err-clause-step g c =
     let m = c.args.self.now in
     let host = c.args.host.now in
     let ports = g.H.Host.ports host in
-    base bs (g.H.Host.rule host) m ports c.requires.running c.in-Some.instr c.requires.able (sym (c.in-Some.ensures ∙ ap (here (bytes_of c.args.checked.now.opened)) c.running.ensures))
+    base bs (g.H.Host.rule (g.H.Host.base host)) m ports c.requires.running c.in-Some.instr c.requires.able (sym (c.in-Some.ensures ∙ ap (here (bytes_of c.args.checked.now.opened)) c.running.ensures))
     ∙ ap (λ e. Some (after (world_of m ports) (running m.stack) e)) c.in-Err.ensures.tripped
     ∙ ap (λ (n : Machine). Some (after (world_of n ports) (running n.stack) (trips (cause_of c.in-Err.cause)))) (sym c.in-Err.ensures.unchanged)
     ∙ ap Some (sym (c.trip.ensures ports))
@@ -39,5 +39,5 @@ returns-in-Err-clause-step g c =
 pub returns-in_default-perform-clause-step : goal.returns-in_default-perform-clause-step
 returns-in_default-perform-clause-step g c =
     let host = c.args.host.now in
-    base (bytes_of c.args.checked.now.opened) (g.H.Host.rule host) c.args.self.now (g.H.Host.ports host) c.requires.running c.in-Some.instr c.requires.able (sym (c.in-Some.ensures ∙ ap (here (bytes_of c.args.checked.now.opened)) c.running.ensures))
+    base (bytes_of c.args.checked.now.opened) (g.H.Host.rule (g.H.Host.base host)) c.args.self.now (g.H.Host.ports host) c.requires.running c.in-Some.instr c.requires.able (sym (c.in-Some.ensures ∙ ap (here (bytes_of c.args.checked.now.opened)) c.running.ensures))
     ∙ ap Some (sym c.in_default-perform.ensures.done.leaves)
