@@ -1,5 +1,6 @@
 // One routine of an opened module.
 ghost use Rattle.std.specs.Prelude.{◌≡◌, ◌<◌};
+ghost use Rattle.module.specs.Layout.{entry_of, offset};
 
 use crate::contents::{entry_of, offset_of, row_from};
 use crate::entry::Entry;
@@ -9,12 +10,16 @@ use isa::decode::decode;
 use isa::instr::Instr;
 use isa::row::Row;
 
-// The module, and which of its routines it is.
+// The module, which of its routines it is, what its entry says, and where its body begins.
 #[derive(Clone, Copy)]
 pub(crate) struct Routine<'a> {
     pub(crate) module: &'a Opened<'a>,
     pub(crate) index: usize,
+    pub(crate) head: Entry,
+    at: usize,
     ghost there: { index < module.now.counts.routines },
+    ghost headed: { head ≡ entry_of module.now.bytes.now index },
+    ghost placed: { at ≡ offset module.now.bytes.now index },
 }
 
 impl Opened<'_> {
@@ -29,37 +34,31 @@ impl Opened<'_> {
         Routine {
             module: self,
             index,
+            head: entry_of(self.bytes, index),
+            at: offset_of(self.bytes, index),
         }
     }
 }
 
 impl Routine<'_> {
-    ghost use Rattle.module.specs.Layout.{count, entry_of, signature, row_at, instr};
+    ghost use Rattle.module.specs.Layout.{count, signature, row_at, instr};
     ghost use Rattle.module.specs.Places.{instr_at};
     ghost use Rattle.module.specs.Told.{bytes_in};
-
-    // The entry, without its offset.
-    pub(crate) fn entry(&self) -> Entry
-        ensures { result ≡ entry_of (bytes_in self.now) self.now.index }
-    {
-        entry_of(self.module.bytes, self.index)
-    }
 
     // How many instructions it has.
     pub(crate) fn count(&self) -> usize
         ensures { result ≡ count (bytes_in self.now) self.now.index }
     {
-        usize::from(self.entry().count)
+        usize::from(self.head.count)
     }
 
     // What it takes and gives.
     pub(crate) fn signature(&self) -> Signature
         ensures { result ≡ signature (bytes_in self.now) self.now.index }
     {
-        let entry = self.entry();
         Signature {
-            arguments: entry.arguments,
-            results: entry.results,
+            arguments: self.head.arguments,
+            results: self.head.results,
         }
     }
 
@@ -68,10 +67,7 @@ impl Routine<'_> {
         requires { instruction < count (bytes_in self.now) self.now.index }
         ensures { result ≡ row_at (bytes_in self.now) self.now.index instruction }
     {
-        row_from(
-            self.module.bytes,
-            offset_of(self.module.bytes, self.index) + 8 * instruction,
-        )
+        row_from(self.module.bytes, self.at + 8 * instruction)
     }
 
     // An instruction, if there is one at this place and its row is well formed.

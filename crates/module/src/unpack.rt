@@ -25,7 +25,7 @@ impl Opened<'_> {
         ensures { entries.new ≡ entries_of (bytes_of self.now) }
     {
         for (r, entry) in entries.iter_mut().enumerate() {
-            *entry = self.routine(r).entry();
+            *entry = self.routine(r).head;
         }
     }
 

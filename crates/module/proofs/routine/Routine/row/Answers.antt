@@ -6,4 +6,4 @@ pub row_from-requires : goal.row_from-requires
 row_from-requires c =
     let t = c.args.self.now in
     let entry = routine_entered t in
-    omega (arith, (opened_laid t.module.now).long, entry.placed, entry.inside, c.requires, c.offset_of.ensures.value)
+    omega (arith, (opened_laid t.module.now).long, entry.placed, entry.inside, c.requires, t.placed)
