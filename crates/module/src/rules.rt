@@ -61,7 +61,7 @@ fn target_holds(rows: &[ShapeRow], here: ShapeRow, instr: Instr) -> bool
     ensures { (bs : List ℕ) (r : ℕ) (s : List Bool) → rows.now ≡ routine_rows bs r → here ≡ row_of s → length s ≤ 32 → Shallow bs r → result ≡ targets bs r s instr }
 {
     match instr.target() {
-        Some(n) => (n as usize) < rows.len() && rows[n as usize] == here,
+        Some(n) => rows.get(n as usize).is_some_and(|row| *row == here),
         None => true,
     }
 }

@@ -1,25 +1,26 @@
-use Rattle.std.proofs.Common.{◌≡◌, ◌<◌, false, ◌&&◌, ltb, sym, ap, ◌∙◌, arith}
-use Rattle.std.proofs.lemmas.Bool.{lt-ltb, le-ltb}
+use Rattle.std.proofs.Common.{◌≡◌, ◌&&◌, eqb, ltb, length, get_or, sym, ap, ◌∙◌, ⊎_elim, arith}
+use Rattle.std.proofs.lemmas.Bool.{cases_lt, and_left, le-ltb}
+use Rattle.std.proofs.lemmas.Grind.{common_steps}
 use Rattle.module.specs.First.{passes}
 use Rattle.module.specs.Layout.{count}
 use Rattle.module.specs.Rules.{same_shape}
 use Rattle.module.specs.Shape.{shape}
+use Rattle.module.specs.Verdict.{blank}
 use Rattle.module.proofs.Lookup.{rows_long, row_at_lem}
 use Rattle.module.proofs.Spans.{same_rows}
 use Rattle.module.proofs.rules.target_holds.Goals as goal
 
-pub returns-then-n-rows : goal.returns-then-n-rows
-returns-then-n-rows c = λ bs r s e p h k.
+pub returns-in-Some : goal.returns-in-Some
+returns-in-Some c = λ bs r s e p h k.
     let n = c.in-Some.n in
-    let lt : n < count bs r = omega (arith, c.if-n-rows.true, rows_long bs r _ e) in
-    c.eq.ensures ∙ same_rows _ _ (shape bs r n) s (row_at_lem bs r _ e n lt) p (k n lt) h
-    ∙ ap (λ b. b && same_shape (shape bs r n) s) (sym (lt-ltb n (count bs r) lt))
-    ∙ ap (passes (λ m. ltb m (count bs r) && same_shape (shape bs r m) s)) c.in-Some.ensures
-
-pub returns-else-n-rows : goal.returns-else-n-rows
-returns-else-n-rows c = λ bs r s e p h k.
-    let n = c.in-Some.n in
-    let past : ltb n (count bs r) ≡ false = le-ltb n (count bs r) (omega (arith, c.if-n-rows.false, rows_long bs r _ e)) in
-    le-ltb n _ c.if-n-rows.false
-    ∙ ap (λ b. b && same_shape (shape bs r n) s) (sym past)
-    ∙ ap (passes (λ m. ltb m (count bs r) && same_shape (shape bs r m) s)) c.in-Some.ensures
+    let rows = c.args.rows.now in
+    let row = get_or rows n blank in
+    let said : c.is_some_and.result ≡ (ltb n (length rows) && (eqb row.depth c.args.here.depth && eqb row.mask c.args.here.mask)) = grind (arith, common_steps) in
+    let long = rows_long bs r rows e in
+    let there : c.is_some_and.result ≡ (ltb n (count bs r) && same_shape (shape bs r n) s)
+    = said ∙ ap (λ m. ltb n m && (eqb row.depth c.args.here.depth && eqb row.mask c.args.here.mask)) long
+    ∙ ⊎_elim
+    (λ lt. ap (λ b. ltb n (count bs r) && b) (same_rows row c.args.here (shape bs r n) s (row_at_lem bs r rows e n lt) p (k n lt) h))
+    (λ past. and_left _ _ (le-ltb n (count bs r) past) ∙ sym (and_left _ _ (le-ltb n (count bs r) past)))
+    (cases_lt n (count bs r)) in
+    there ∙ ap (passes (λ m. ltb m (count bs r) && same_shape (shape bs r m) s)) c.in-Some.ensures
