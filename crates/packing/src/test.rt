@@ -30,7 +30,8 @@ pub(crate) struct Tested<'a> {
     ghost rows: { RowsRight counted.parts.rows.now },
 }
 
-// The number of instructions in all routines, if every entry is right. In open each entry has an offset to test as well.
+// The number of instructions in all routines, if every entry is right.
+// As in module's open, which also tests offsets: a function for both would be public, and require that a closure may be called.
 fn sum_entries(entries: &[Entry]) -> Result<usize, Refusal>
     requires { length entries.now ≤ 64 }
     ensures verdict { told result ≡ unless_wrong (first_failing (entry_right entries.now) (length entries.now) 0) (Ok (total entries.now)) }
@@ -97,7 +98,7 @@ impl<'a> Counted<'a> {
     }
 
     // The first place whose row is not well formed.
-    // A function for this and module's breach would have more clauses on a closure's calls than the loop has lines.
+    // As in module's breach: a function for both would be public, and require of its callers that its closures may be called.
     fn first_malformed(&self) -> Option<Place>
         ensures first { result ≡ malformed self.now.parts.entries.now self.now.parts.rows.now }
         ensures words { result ≡ None → (k : ℕ) → k < length self.now.parts.rows.now → (row_at self.now.parts.rows.now k).n < 2 ^ 32 }

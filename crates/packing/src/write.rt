@@ -34,7 +34,8 @@ fn header_bytes(routines: u16, image: u16) -> [u8; 4]
     [n0, n1, d0, d1]
 }
 
-// Writes bytes from a place on, and answers where they end. After a loop over chunks_exact_mut a proof knows nothing of them.
+// Writes bytes from a place on, and answers where they end.
+// By places: after a loop over chunks_exact_mut a proof knows nothing of what was written.
 fn put(output: &mut [u8], at: usize, bytes: &[u8]) -> usize
     requires { at + length bytes.now ≤ length output.old }
     ensures end { result ≡ at + length bytes.now }
