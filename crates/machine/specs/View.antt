@@ -1,5 +1,5 @@
 -- A machine as the rules see it.
-use Rattle.std.specs.Prelude.{◌≡◌, ℕ, List, [], ◌∷◌}
+use Rattle.std.specs.Prelude.{◌≡◌, ℕ, true, Some, List, [], ◌∷◌}
 use Rattle.isa.specs.declared.instr.Instr.{Instr}
 use Rattle.host.specs.declared.port.Port.{Port}
 use Rattle.faults.specs.Causes.{trip_of}
@@ -9,7 +9,7 @@ use Rattle.machine.specs.declared.machine.State.TheVariants.{Running, Ended, Tri
 use Rattle.machine.specs.declared.stack.Stack.{Stack}
 use Rattle.machine.specs.Level.{Level}
 use Rattle.machine.specs.Nested.{running as top, waiting}
-use Rattle.machine.specs.World.{Phase, running, ended, tripped, Move, World, world, after, effect}
+use Rattle.machine.specs.World.{Phase, running, ended, tripped, Move, World, world, after, effect, here, able}
 
 abbrev pub phase_of : State → Phase
 phase_of Running = running
@@ -25,6 +25,12 @@ levels_in (Tripped cause place) stack = top stack ∷ waiting stack
 -- a machine with the ports of its host
 unfoldable pub world_of : Machine → List Port → World
 world_of m ports = world (phase_of m.state) (levels_in m.state m.stack) m.memory.bytes ports
+
+-- a running machine that stands at the instruction x of a module, which has a rule there
+pub record Stands (bs : List ℕ) (x : Instr) (m : Machine) : Type 0 where
+  pub running : m.state ≡ Running
+  pub stands : here bs (top m.stack) ≡ Some x
+  pub able : able bs (top m.stack) (waiting m.stack) ≡ true
 
 -- what an instruction x of a module comes to in the machine m, over these ports
 abbrev pub effect_in : List ℕ → (List Port → List Port) → Instr → Machine → List Port → Move

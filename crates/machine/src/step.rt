@@ -7,7 +7,7 @@ ghost use Rattle.module.specs.Told.{bytes_of};
 ghost use Rattle.machine.specs.declared.machine.State.TheVariants.{Running};
 ghost use Rattle.machine.specs.Level.{level_of, value};
 ghost use Rattle.machine.specs.Nested.{running, waiting};
-ghost use Rattle.machine.specs.View.{world_of, effect_in, Makes, Does};
+ghost use Rattle.machine.specs.View.{world_of, Stands, effect_in, Makes, Does};
 ghost use Rattle.machine.specs.World.{able, after, trips, here, step as stepped};
 
 use crate::frame::{Frame, Register};
@@ -57,9 +57,7 @@ impl Machine {
 
     // Begins routine n, with arguments from register b on.
     fn call(&mut self, checked: &Checked, a: u8, b: u8, n: u32) -> Result<(), Cause>
-        requires running { self.old.state ≡ Running }
-        requires stands { here (bytes_of checked.now.opened) (running self.old.stack) ≡ Some (Call a b n) }
-        requires able { able (bytes_of checked.now.opened) (running self.old.stack) (waiting self.old.stack) ≡ true }
+        requires { Stands (bytes_of checked.now.opened) (Call a b n) self.old }
         ensures done { OnOk result (Does (bytes_of checked.now.opened) (Call a b n) self.old self.new) }
         ensures tripped { IfErr result (λ cause. (rule : List Port → List Port) (ports : List Port) → effect_in (bytes_of checked.now.opened) rule (Call a b n) self.old ports ≡ trips (cause_of cause)) }
         ensures unchanged { OnErr result (self.new ≡ self.old) }
@@ -83,9 +81,7 @@ impl Machine {
 
     // Returns the results from register a on, or ends the run.
     fn give_back(&mut self, checked: &Checked, a: u8)
-        requires running { self.old.state ≡ Running }
-        requires stands { here (bytes_of checked.now.opened) (running self.old.stack) ≡ Some (Ret a) }
-        requires able { able (bytes_of checked.now.opened) (running self.old.stack) (waiting self.old.stack) ≡ true }
+        requires { Stands (bytes_of checked.now.opened) (Ret a) self.old }
         ensures { Does (bytes_of checked.now.opened) (Ret a) self.old self.new }
     {
         if self.ends_run() {
@@ -111,9 +107,7 @@ impl Machine {
         checked: &Checked,
         host: &mut H,
     ) -> Result<(), Cause>
-        requires running { self.old.state ≡ Running }
-        requires stands { here (bytes_of checked.now.opened) (running self.old.stack) ≡ Some instr }
-        requires able { able (bytes_of checked.now.opened) (running self.old.stack) (waiting self.old.stack) ≡ true }
+        requires { Stands (bytes_of checked.now.opened) instr self.old }
         ensures done { OnOk result (Makes (bytes_of checked.now.opened) (H.rule (H.base host.old)) instr self.old (H.ports host.old) self.new (H.ports host.new)) }
         ensures tripped { IfErr result (λ cause. effect_in (bytes_of checked.now.opened) (H.rule (H.base host.old)) instr self.old (H.ports host.old) ≡ trips (cause_of cause)) }
         ensures unchanged { OnErr result (self.new ≡ self.old) }
