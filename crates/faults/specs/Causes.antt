@@ -1,7 +1,9 @@
 -- The numbers of a cause, and of a trip.
 use Rattle.std.specs.Prelude.{ℕ}
 use Rattle.host.specs.Refusals.{values_of}
+use Rattle.refusal.specs.declared.Layer.TheVariants.{Engine}
 use Rattle.refusal.specs.declared.Place.{Place}
+use Rattle.refusal.specs.Values.{layer_number}
 use Rattle.faults.specs.declared.cause.Cause.{Cause}
 use Rattle.faults.specs.declared.cause.Cause.TheVariants.{ZeroDivisor, MemoryPassed, TooDeep, Host}
 
@@ -13,7 +15,7 @@ pub record CauseValues : Type 0 where
 
 -- a cause of the engine's
 abbrev pub by_engine : ℕ → ℕ → CauseValues
-by_engine number detail = record { number = number; layer = 2; detail = detail }
+by_engine number detail = record { number = number; layer = layer_number Engine; detail = detail }
 
 -- a refusal of the host's has its own number and layer
 abbrev pub cause_of : Cause → CauseValues

@@ -1,13 +1,14 @@
 -- The numbers of a host's refusals, by which every promise speaks of them.
 use Rattle.std.specs.Prelude.{ℕ, Result}
 use Rattle.std.specs.Result.{result_map_both}
-use Rattle.refusal.specs.Values.{Values}
+use Rattle.refusal.specs.declared.Layer.TheVariants.{Host}
+use Rattle.refusal.specs.Values.{Values, layer_number}
 use Rattle.host.specs.declared.port.HostRefusal.{HostRefusal}
 use Rattle.host.specs.declared.port.HostRefusal.TheVariants.{NoPort, SensePort, OutOfLimits}
 
 -- a refusal that the host causes: it has no place
 abbrev pub by_host : ℕ → Values
-by_host number = record { number = number; layer = 3; routine = 0; instruction = 0 }
+by_host number = record { number = number; layer = layer_number Host; routine = 0; instruction = 0 }
 
 abbrev pub values_of : HostRefusal → Values
 values_of NoPort = by_host 4

@@ -88,10 +88,14 @@ length_given bs = 4 + 8 * routines bs + 8 * total bs + image_length bs
 abbrev pub provided : {X : Type 0} → Bool → Values → Result X Values → Result X Values
 provided test refused rest = cond test rest (Err refused)
 
+-- the rest, or the refusal of what is found to be wrong
+abbrev pub unless : {A X : Type 0} → (A → Values) → Option A → Result X Values → Result X Values
+unless refusal None rest = rest
+unless refusal (Some a) rest = Err (refusal a)
+
 -- the rest, unless an entry is wrong
 abbrev pub unless_wrong : {X : Type 0} → Option ℕ → Result X Values → Result X Values
-unless_wrong None rest = rest
-unless_wrong (Some r) rest = Err (author 3 r 0)
+unless_wrong entry rest = unless (λ r. author 3 r 0) entry rest
 
 -- what open answers: the counts, or the refusal
 abbrev pub opening : List ℕ → Result Counts Values

@@ -1,5 +1,6 @@
 -- An opened module in the terms of the layout.
 use Rattle.std.specs.Prelude.{ℕ, List, Ok, Err, Result}
+use Rattle.std.specs.Result.{result_map_both}
 use Rattle.refusal.specs.Values.{Values, values_of}
 use Rattle.refusal.specs.declared.Refusal.{Refusal}
 use Rattle.module.specs.declared.opened.Counts.{Counts}
@@ -16,10 +17,8 @@ bytes_in t = bytes_of t.module.now
 
 -- an answer by whether there is one
 abbrev pub verdict_of : {X : Type 0} → Result X Refusal → Result (Unit {0}) Values
-verdict_of (Ok x) = Ok tt
-verdict_of (Err e) = Err (values_of e)
+verdict_of answer = result_map_both (λ _. tt) values_of answer
 
 -- an answer of open, by the counts
 abbrev pub counted : Result Opened Refusal → Result Counts Values
-counted (Ok o) = Ok o.counts
-counted (Err e) = Err (values_of e)
+counted answer = result_map_both (λ (o : Opened). o.counts) values_of answer

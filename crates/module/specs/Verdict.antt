@@ -1,12 +1,13 @@
 -- What check answers, and what it leaves in the sheet.
 use Rattle.std.specs.Prelude.{ℕ, cond, ◌&&◌, List, [], ◌∷◌, ◌++◌, length, drop, replicate, is_ok, Some, None, Ok, Err, Option, Result, nat_le}
-use Rattle.refusal.specs.Values.{Values, author, caller}
+use Rattle.std.specs.Result.{result_and}
+use Rattle.refusal.specs.Values.{Values, author_at, caller}
 use Rattle.refusal.specs.declared.Place.{Place}
 use Rattle.module.specs.declared.opened.Counts.{Counts}
 use Rattle.module.specs.declared.rule.Rule.{Rule}
 use Rattle.module.specs.declared.shape.ShapeRow.{ShapeRow}
 use Rattle.module.specs.First.{first_failing, first_place}
-use Rattle.module.specs.Layout.{routines, count, total, opening, provided}
+use Rattle.module.specs.Layout.{routines, count, total, opening, provided, unless}
 use Rattle.module.specs.Rules.{holds, number, rules}
 use Rattle.module.specs.Shape.{rows_before}
 
@@ -18,22 +19,18 @@ breach_in q bs r = first_failing (holds q bs r) (count bs r) 0
 abbrev pub breach : Rule → List ℕ → ℕ → ℕ → Option Place
 breach q bs left r = first_place (holds q bs) (count bs) left r
 
+-- the next rule, unless this one is broken
 abbrev pub or_next : Rule → Option Place → Result (Unit {0}) Values → Result (Unit {0}) Values
-or_next q None next = next
-or_next q (Some p) next = Err (author (number q) p.routine p.instruction)
+or_next q place next = unless (author_at (number q)) place next
 
 -- rules in turn, each over the whole module
 abbrev pub tried : List Rule → List ℕ → Result (Unit {0}) Values
 tried [] bs = Ok tt
 tried (q ∷ qs) bs = or_next q (breach q bs (routines bs) 0) (tried qs bs)
 
-abbrev pub if_opened : Result Counts Values → Result (Unit {0}) Values → Result (Unit {0}) Values
-if_opened (Ok c) next = next
-if_opened (Err e) next = Err e
-
 -- what check answers over a sheet of so many rows
 abbrev pub checking : List ℕ → ℕ → Result (Unit {0}) Values
-checking bs rows = if_opened (opening bs) (provided (nat_le (total bs) rows) (caller 12) (tried rules bs))
+checking bs rows = result_and (opening bs) (provided (nat_le (total bs) rows) (caller 12) (tried rules bs))
 
 abbrev pub blank : ShapeRow
 blank = record { depth = 0; mask = 0 }

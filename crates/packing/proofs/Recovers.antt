@@ -3,6 +3,7 @@ use Rattle.std.proofs.Common.{◌≡◌, ℕ, Bool, true, false, cond, ◌&&◌,
 use Rattle.std.proofs.lemmas.List.FromFn.{length-map-range_with_len}
 use Rattle.std.proofs.lemmas.List.{take_at}
 use Rattle.std.proofs.lemmas.Grind.{common_steps}
+use Rattle.std.specs.Result.{result_and}
 use Rattle.refusal.specs.Values.{Values, caller}
 use Rattle.isa.specs.declared.row.Row.{Row}
 use Rattle.module.specs.declared.entry.Entry.{Entry}
@@ -10,7 +11,7 @@ use Rattle.module.specs.declared.shape.ShapeRow.{ShapeRow}
 use Rattle.module.specs.Layout.{routines, total, counts, provided, opening}
 use Rattle.module.specs.Unpack.{entry_of, body_row, roomy, unpacking, entries_after, rows_after}
 use Rattle.module.specs.Verdict.{checking, sheet_after}
-use Rattle.packing.specs.Pack.{size, if_ok, packing, output_after}
+use Rattle.packing.specs.Pack.{size, packing, output_after}
 use Rattle.packing.specs.Packed.{packed}
 use Rattle.packing.specs.Shows.{Shows, recovering, sheet_then, returned}
 
@@ -38,7 +39,7 @@ module _ (es : List Entry) (rs : List Row) (im : List ℕ) (room n : ℕ) (v : O
 
   pub refused_by_check : (e : Values) (sheet bes brs : ℕ) → Err e ≡ checking p sheet → Err e ≡ recovering es rs im room sheet bes brs
   refused_by_check e sheet bes brs h =
-      λ i. if_ok (v i) (if_ok (h i) (provided (leb (length es) bes && leb (length rs) brs) (caller 13) (Ok (length es, length rs))))
+      λ i. result_and (v i) (result_and (h i) (provided (leb (length es) bes && leb (length rs) brs) (caller 13) (Ok (length es, length rs))))
 
   pub sheet_then_lem : (bs : List ℕ) (sheet sheet' : List ShapeRow) → bs ≡ p → sheet' ≡ sheet_after bs sheet → sheet' ≡ sheet_then es rs im room sheet
   sheet_then_lem bs sheet sheet' q e = e ∙ ap (λ b. sheet_after b sheet) q ∙ (λ i. cond (is_ok (v i)) (sheet_after p sheet) sheet)
@@ -47,7 +48,7 @@ module _ (es : List Entry) (rs : List Row) (im : List ℕ) (room n : ℕ) (v : O
   recovered_verdict sheet bes brs bs q h =
       ap (λ b. unpacking b bes brs) q
       ∙ (λ i. provided (leb (routines_is i) bes && leb (total_is i) brs) (caller 13) (Ok (routines_is i, total_is i)))
-      ∙ (λ i. if_ok (v i) (if_ok (h i) (provided (leb (length es) bes && leb (length rs) brs) (caller 13) (Ok (length es, length rs)))))
+      ∙ (λ i. result_and (v i) (result_and (h i) (provided (leb (length es) bes && leb (length rs) brs) (caller 13) (Ok (length es, length rs)))))
 
   roomy_is : (bes brs : ℕ) (r : Result (ℕ × ℕ) Values) (bs : List ℕ) → bs ≡ p → r ≡ unpacking bs bes brs → roomy p bes brs ≡ is_ok r
   roomy_is bes brs r bs q e = sym (ap is_ok (e ∙ ap (λ b. unpacking b bes brs) q) ∙ choice (roomy p bes brs) (caller 13) (routines p, total p))

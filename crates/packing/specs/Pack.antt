@@ -1,12 +1,12 @@
 -- What pack answers, and what it leaves in the output.
 use Rattle.std.specs.Prelude.{ℕ, ◌+◌, ◌-◌, ◌*◌, Bool, cond, List, ◌++◌, length, drop, is_ok, Some, None, Ok, Err, Option, Result, ◌==◌, nat_le}
-use Rattle.refusal.specs.Values.{Values, author, caller}
+use Rattle.refusal.specs.Values.{Values, author, author_at, caller}
 use Rattle.refusal.specs.declared.Place.{Place}
 use Rattle.isa.specs.declared.row.Row.{Row}
 use Rattle.isa.specs.Form.{well_formed}
 use Rattle.module.specs.declared.entry.Entry.{Entry}
 use Rattle.module.specs.First.{first_failing, first_place}
-use Rattle.module.specs.Layout.{admitted, right, provided, unless_wrong}
+use Rattle.module.specs.Layout.{admitted, right, provided, unless, unless_wrong}
 use Rattle.packing.specs.Packed.{entry_at, row_at, before, total, packed}
 
 abbrev pub counts_right : List Entry → List ℕ → Bool
@@ -24,17 +24,11 @@ abbrev pub malformed : List Entry → List Row → Option Place
 malformed es rs = first_place (formed es rs) (λ r. (entry_at es r).count) (length es) 0
 
 abbrev pub unless_malformed : {X : Type 0} → Option Place → Result X Values → Result X Values
-unless_malformed None rest = rest
-unless_malformed (Some p) rest = Err (author 5 p.routine p.instruction)
+unless_malformed place rest = unless (author_at 5) place rest
 
 -- the length of the module
 abbrev pub size : List Entry → List ℕ → ℕ
 size es im = 4 + 8 * length es + 8 * total es + length im
-
--- the rest, if the answer is no refusal
-abbrev pub if_ok : {A X : Type 0} → Result A Values → Result X Values → Result X Values
-if_ok (Ok a) rest = rest
-if_ok (Err e) rest = Err e
 
 -- the rest, if every entry is right and the entries count the rows
 abbrev pub if_counted : {X : Type 0} → List Entry → List Row → List ℕ → Result X Values → Result X Values

@@ -1,5 +1,6 @@
 -- What a module shows, and the two round trips.
 use Rattle.std.specs.Prelude.{◌≡◌, ℕ, ◌<◌, true, cond, ◌&&◌, List, ◌++◌, length, drop, is_ok, Ok, Result, nat_le}
+use Rattle.std.specs.Result.{result_and}
 use Rattle.refusal.specs.Values.{Values, caller}
 use Rattle.isa.specs.declared.row.Row.{Row}
 use Rattle.isa.specs.Form.{well_formed}
@@ -8,7 +9,7 @@ use Rattle.module.specs.declared.shape.ShapeRow.{ShapeRow}
 use Rattle.module.specs.Layout.{opening, counts, provided}
 use Rattle.module.specs.Unpack.{entries, rows, image, roomy}
 use Rattle.module.specs.Verdict.{checking, sheet_after}
-use Rattle.packing.specs.Pack.{size, if_ok, packing}
+use Rattle.packing.specs.Pack.{size, packing}
 use Rattle.packing.specs.Packed.{row_at, packed}
 
 -- the bytes open, and show these entries, rows and image, with every row well formed
@@ -30,8 +31,8 @@ repacked_into bs es rs out = cond (roomy bs es rs && nat_le (length bs) (length 
 -- packed into so many bytes, checked over so many rows of a sheet, and unpacked into so many entries and rows
 abbrev pub recovering : List Entry → List Row → List ℕ → ℕ → ℕ → ℕ → ℕ → Result (ℕ × ℕ) Values
 recovering es rs im room sheet back_entries back_rows =
-    if_ok (packing es rs im room)
-    (if_ok (checking (packed es rs im) sheet)
+    result_and (packing es rs im room)
+    (result_and (checking (packed es rs im) sheet)
     (provided (nat_le (length es) back_entries && nat_le (length rs) back_rows) (caller 13)
     (Ok (length es, length rs))))
 

@@ -5,7 +5,8 @@ ghost use Rattle.refusal.specs.Values.{Values, told};
 ghost use Rattle.isa.specs.Form.{well_formed};
 ghost use Rattle.module.specs.First.{first_failing};
 ghost use Rattle.module.specs.Layout.{unless_wrong};
-ghost use Rattle.packing.specs.Pack.{entry_right, malformed, unless_malformed, size, if_ok, if_counted};
+ghost use Rattle.std.specs.Result.{result_and};
+ghost use Rattle.packing.specs.Pack.{entry_right, malformed, unless_malformed, size, if_counted};
 ghost use Rattle.packing.specs.Packed.{entry_at, row_at, before, total};
 ghost use Rattle.packing.specs.Tested.{EntriesRight, RowsRight};
 
@@ -65,7 +66,7 @@ fn malformed_in(rows: &[Row]) -> Option<usize>
 impl<'a> Parts<'a> {
     // The tests of the counts, of the entries and of the number of rows.
     pub(crate) fn counted(self) -> Result<Counted<'a>, Refusal>
-        ensures verdict { (rest : Result ℕ Values) → if_ok (told result) rest ≡ if_counted self.entry.entries.now self.entry.rows.now self.entry.image.now rest }
+        ensures verdict { (rest : Result ℕ Values) → result_and (told result) rest ≡ if_counted self.entry.entries.now self.entry.rows.now self.entry.image.now rest }
         ensures same { IfOk result (λ c. c.parts ≡ self.entry) }
     {
         let Parts {
@@ -120,7 +121,7 @@ impl<'a> Counted<'a> {
 
     // The test of the rows.
     pub(crate) fn tested(self) -> Result<Tested<'a>, Refusal>
-        ensures verdict { (rest : Result ℕ Values) → if_ok (told result) rest ≡ unless_malformed (malformed self.entry.parts.entries.now self.entry.parts.rows.now) rest }
+        ensures verdict { (rest : Result ℕ Values) → result_and (told result) rest ≡ unless_malformed (malformed self.entry.parts.entries.now self.entry.parts.rows.now) rest }
         ensures same { IfOk result (λ t. t.counted ≡ self.entry) }
     {
         if let Some(place) = self.first_malformed() {

@@ -1,5 +1,7 @@
 -- The four numbers of a refusal, by which every promise speaks of it.
 use Rattle.std.specs.Prelude.{ℕ, Some, None, Ok, Err, Option, Result}
+use Rattle.std.specs.Option.{unwrap_or}
+use Rattle.std.specs.Result.{result_map_both}
 use Rattle.refusal.specs.declared.Layer.{Layer}
 use Rattle.refusal.specs.declared.Layer.TheVariants.{Caller, Author, Engine, Host}
 use Rattle.refusal.specs.declared.Place.{Place}
@@ -21,29 +23,31 @@ layer_number Host = 3
 
 -- the place 0 0 stands for none
 abbrev pub placed : Option Place → Place
-placed (Some place) = place
-placed None = record { routine = 0; instruction = 0 }
+placed place = unwrap_or place (record { routine = 0; instruction = 0 })
 
 -- a refusal that the module's author causes
 abbrev pub author : ℕ → ℕ → ℕ → Values
-author number routine instruction = record { number = number; layer = 1; routine = routine; instruction = instruction }
+author number routine instruction = record { number = number; layer = layer_number Author; routine = routine; instruction = instruction }
+
+abbrev pub author_at : ℕ → Place → Values
+author_at number place = author number place.routine place.instruction
 
 -- a refusal that the caller causes
 abbrev pub caller : ℕ → Values
-caller number = record { number = number; layer = 0; routine = 0; instruction = 0 }
+caller number = record { number = number; layer = layer_number Caller; routine = 0; instruction = 0 }
 
 abbrev pub values_of : Refusal → Values
 values_of Truncated = author 1 0 0
 values_of Counts = author 2 0 0
 values_of (Entry routine) = author 3 routine 0
 values_of Length = author 4 0 0
-values_of (Form p) = author 5 p.routine p.instruction
-values_of (Stack p) = author 6 p.routine p.instruction
-values_of (Callee p) = author 7 p.routine p.instruction
-values_of (Register p) = author 8 p.routine p.instruction
-values_of (Constant p) = author 9 p.routine p.instruction
-values_of (Target p) = author 10 p.routine p.instruction
-values_of (Ending p) = author 11 p.routine p.instruction
+values_of (Form p) = author_at 5 p
+values_of (Stack p) = author_at 6 p
+values_of (Callee p) = author_at 7 p
+values_of (Register p) = author_at 8 p
+values_of (Constant p) = author_at 9 p
+values_of (Target p) = author_at 10 p
+values_of (Ending p) = author_at 11 p
 values_of Sheet = caller 12
 values_of Room = caller 13
 values_of Fuel = caller 14
@@ -54,5 +58,4 @@ values_of Absent = caller 18
 
 -- an answer, with its refusal by the four numbers
 abbrev pub told : {X : Type 0} → Result X Refusal → Result X Values
-told (Ok x) = Ok x
-told (Err e) = Err (values_of e)
+told answer = result_map_both (λ x. x) values_of answer
