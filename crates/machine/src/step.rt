@@ -91,6 +91,7 @@ impl Machine {
         let Some(signature) = checked.signature(self.stack.running().routine) else {
             unreachable()
         };
+        // In two steps: the other cases of Some(Instr::Call { .. }) in one would not say that it is no CALL.
         let Some(call) = self.stack.caller().instruction(checked) else {
             unreachable()
         };
