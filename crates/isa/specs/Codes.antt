@@ -1,10 +1,7 @@
 -- Which numbers stand for something in a row, and what a conversion answers.
 use Rattle.std.specs.Prelude.{ℕ, Bool, cond, ◌||◌, Ok, Err, Result}
-use Rattle.std.specs.Option.{ok_or}
-use Rattle.isa.specs.declared.instr.Instr.{Instr}
 use Rattle.isa.specs.declared.row.Malformed.{Malformed}
-use Rattle.isa.specs.declared.row.Row.{Row}
-use Rattle.isa.specs.Form.{within, decoded}
+use Rattle.isa.specs.Form.{within}
 
 abbrev pub malformed : Malformed
 malformed = record {}
@@ -21,7 +18,3 @@ is_part op = within 8 9 op
 
 abbrev pub is_test : ℕ → Bool
 is_test op = within 19 21 op
-
--- the instruction of a row, if the row is well formed
-abbrev pub of_row : Row → Result Instr Malformed
-of_row row = ok_or (decoded row) malformed
