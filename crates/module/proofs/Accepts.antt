@@ -1,10 +1,9 @@
 -- What an accepted module keeps.
-use Rattle.std.proofs.Common.{◌≡◌, ℕ, zero, suc, ◌+◌, ◌-◌, ◌<◌, ◌≤◌, Bool, true, false, not, ◌&&◌, ◌||◌, ltb, ◌⊎◌, List, [], ◌∷◌, length, get_or, take, drop, is_ok, IfOk, Some, None, Ok, Err, Option, Result, sym, refl, ap, ◌∙◌, ⊎_elim, arith, length-drop, length-take}
+use Rattle.std.proofs.Common.{◌≡◌, ℕ, zero, suc, ◌+◌, ◌-◌, ◌<◌, ◌≤◌, Bool, true, false, not, ◌&&◌, ◌||◌, ltb, ◌⊎◌, List, [], ◌∷◌, length, get_or, take, drop, is_ok, IfOk, Some, None, Ok, Err, Result, sym, refl, ap, ◌∙◌, ⊎_elim, arith, length-drop, length-take}
 use Rattle.std.proofs.lemmas.List.{get_or-take, get_or-drop}
 use Rattle.std.proofs.lemmas.Bool.{and_parts, and_from, cond-true, eq-eqb, ltb-true, lt-ltb, leb-true, false≢true, not-true}
 use Rattle.std.proofs.lemmas.Bool.Decides.{nat_tests}
-use Rattle.refusal.specs.Values.{Values, told}
-use Rattle.refusal.specs.declared.Place.{Place}
+use Rattle.refusal.specs.Values.{author_at, told}
 use Rattle.refusal.specs.declared.Refusal.{Refusal}
 use Rattle.isa.specs.declared.access.Span.{Span}
 use Rattle.isa.specs.declared.instr.Instr.{Instr}
@@ -22,12 +21,12 @@ use Rattle.module.specs.Kept.{In, Reads, Writes, Kept, KeptEverywhere}
 use Rattle.module.specs.Laid.{Laid}
 use Rattle.module.specs.Layout.{routines, count, arguments, results, opening, row_at, instr}
 use Rattle.module.specs.Ready.{Everywhere}
-use Rattle.module.specs.Rules.{stacks, calls, access_in, both, fits, registers, variables, spares, constants, same_flag, same_shape, targets, closes, rules}
+use Rattle.module.specs.Rules.{stacks, calls, access_in, both, fits, registers, variables, spares, constants, same_flag, same_shape, targets, closes, number, rules}
 use Rattle.module.specs.Shape.{shape}
 use Rattle.module.specs.Told.{bytes_of}
-use Rattle.module.specs.Verdict.{breach, or_next, tried}
+use Rattle.module.specs.Verdict.{breach, tried}
 use Rattle.module.proofs.Depths.{depth_kept}
-use Rattle.module.proofs.Opens.{laid}
+use Rattle.module.proofs.Opens.{laid, unless_ok}
 use Rattle.module.proofs.Passes.{everywhere}
 
 -- the parts of acceptance
@@ -63,21 +62,17 @@ accepts_octets bs h = octets_at bs (parts bs h).0
 pub accepts_laid : (bs : List ℕ) → accepted bs ≡ true → Laid bs
 accepts_laid bs h = laid bs (parts bs h).1
 
-next_ok : (q : Rule) (o : Option Place) (next : Result (Unit {0}) Values) → is_ok (or_next q o next) ≡ true → (o ≡ None) × (is_ok next ≡ true)
-next_ok q None next h = (refl, h)
-next_ok q (Some p) next h = absurd (false≢true h)
-
 -- all rules hold everywhere
 rules_hold : (bs : List ℕ) → is_ok (tried rules bs) ≡ true → (q : Rule) → Everywhere q bs
 rules_hold bs h =
     let n = routines bs in
-    let a = next_ok Form (breach Form bs n 0) _ h in
-    let b = next_ok Stack (breach Stack bs n 0) _ a.1 in
-    let c = next_ok Callee (breach Callee bs n 0) _ b.1 in
-    let d = next_ok Registers (breach Registers bs n 0) _ c.1 in
-    let e = next_ok Constants (breach Constants bs n 0) _ d.1 in
-    let f = next_ok Target (breach Target bs n 0) _ e.1 in
-    let g = next_ok Ending (breach Ending bs n 0) _ f.1 in
+    let a = unless_ok (author_at (number Form)) (breach Form bs n 0) _ h in
+    let b = unless_ok (author_at (number Stack)) (breach Stack bs n 0) _ a.1 in
+    let c = unless_ok (author_at (number Callee)) (breach Callee bs n 0) _ b.1 in
+    let d = unless_ok (author_at (number Registers)) (breach Registers bs n 0) _ c.1 in
+    let e = unless_ok (author_at (number Constants)) (breach Constants bs n 0) _ d.1 in
+    let f = unless_ok (author_at (number Target)) (breach Target bs n 0) _ e.1 in
+    let g = unless_ok (author_at (number Ending)) (breach Ending bs n 0) _ f.1 in
     λ q. elim q as (λ p. Everywhere p bs) [
       | Form ↦ everywhere Form bs a.0
       | Stack ↦ everywhere Stack bs b.0

@@ -10,7 +10,7 @@ use Rattle.module.specs.declared.routine.Routine.{Routine}
 use Rattle.module.specs.First.{first_failing}
 use Rattle.module.specs.Laid.{Entered, Laid}
 use Rattle.module.specs.Layout.{right as right_of}
-use Rattle.module.specs.Layout.{entry_of, routines, image_length, offset, count, arguments, results, before, length_given, counts, counts_right, entry_right, provided, unless_wrong, opening}
+use Rattle.module.specs.Layout.{entry_of, routines, image_length, offset, count, arguments, results, before, length_given, counts, counts_right, entry_right, provided, unless, unless_wrong, opening}
 use Rattle.module.specs.Told.{bytes_of, bytes_in}
 use Rattle.module.proofs.Firsts.{first_none, sum_mono}
 
@@ -18,9 +18,9 @@ provided-ok : {X : Type 0} (b : Bool) (v : Values) (rest : Result X Values) → 
 provided-ok true v rest h = (refl, h)
 provided-ok false v rest h = absurd (false≢true h)
 
-entries_ok : {X : Type 0} (o : Option ℕ) (rest : Result X Values) → is_ok (unless_wrong o rest) ≡ true → (o ≡ None) × (is_ok rest ≡ true)
-entries_ok None rest h = (refl, h)
-entries_ok (Some r) rest h = absurd (false≢true h)
+pub unless_ok : {A X : Type 0} (refusal : A → Values) (o : Option A) (rest : Result X Values) → is_ok (unless refusal o rest) ≡ true → (o ≡ None) × (is_ok rest ≡ true)
+unless_ok refusal None rest h = (refl, h)
+unless_ok refusal (Some a) rest h = absurd (false≢true h)
 
 record Right (bs : List ℕ) (r : ℕ) : Type 0 where
   placed : offset bs r ≡ 4 + 8 * routines bs + 8 * before bs r
@@ -52,7 +52,7 @@ tests bs h =
     let a = provided-ok (leb 4 (length bs)) _ _ h in
     let b = provided-ok (counts_right bs) _ _ a.1 in
     let c = provided-ok (leb (4 + 8 * routines bs) (length bs)) _ _ b.1 in
-    let d = entries_ok (first_failing (entry_right bs) (routines bs) 0) _ c.1 in
+    let d = unless_ok (λ r. author 3 r 0) (first_failing (entry_right bs) (routines bs) 0) _ c.1 in
     let e = provided-ok (eqb (length bs) (length_given bs)) _ _ d.1 in
     record {
       counted = b.0;

@@ -1,5 +1,5 @@
 -- An opened module in the terms of the layout.
-use Rattle.std.specs.Prelude.{ℕ, List, Ok, Err, Result}
+use Rattle.std.specs.Prelude.{ℕ, List, Result}
 use Rattle.std.specs.Result.{result_map_both}
 use Rattle.refusal.specs.Values.{Values, values_of}
 use Rattle.refusal.specs.declared.Refusal.{Refusal}

@@ -1,9 +1,8 @@
 -- What check answers, and what it leaves in the sheet.
-use Rattle.std.specs.Prelude.{ℕ, cond, ◌&&◌, List, [], ◌∷◌, ◌++◌, length, drop, replicate, is_ok, Some, None, Ok, Err, Option, Result, nat_le}
+use Rattle.std.specs.Prelude.{ℕ, cond, ◌&&◌, List, [], ◌∷◌, ◌++◌, length, drop, replicate, is_ok, Ok, Err, Option, Result, nat_le}
 use Rattle.std.specs.Result.{result_and}
 use Rattle.refusal.specs.Values.{Values, author_at, caller}
 use Rattle.refusal.specs.declared.Place.{Place}
-use Rattle.module.specs.declared.opened.Counts.{Counts}
 use Rattle.module.specs.declared.rule.Rule.{Rule}
 use Rattle.module.specs.declared.shape.ShapeRow.{ShapeRow}
 use Rattle.module.specs.First.{first_failing, first_place}
