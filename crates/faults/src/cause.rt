@@ -20,6 +20,7 @@ pub enum Cause {
 
 impl Cause {
     /// The number by which the documents name the cause.
+    // A number, since documents and published fault lists know causes by it, and so is the detail.
     pub fn number(self) -> u8
         ensures { result ≡ (cause_of self).number }
     {

@@ -41,6 +41,7 @@ pub enum HostRefusal {
 
 impl HostRefusal {
     /// The number by which the documents name the refusal.
+    // A number, since documents and programs know refusals by it.
     pub fn number(self) -> u8
         ensures { result ≡ (values_of self).number }
     {

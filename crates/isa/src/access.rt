@@ -24,6 +24,7 @@ pub struct Access {
     pub writes: (Span, Span),
 }
 
+// No register is a span like any other: a CALL without arguments reads one, and an Option would say it a second way.
 const NONE: Span = Span { first: 0, len: 0 };
 
 const NOTHING: (Span, Span) = (NONE, NONE);

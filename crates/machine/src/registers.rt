@@ -1,4 +1,5 @@
-// What an instruction does to the registers of the running routine.
+// What an instruction does to the registers of the running routine. That a register is there relates an argument to the
+// frame: it is a fact of neither alone, and each method asks it.
 ghost use Rattle.std.specs.Prelude.{◌≡◌, ◌+◌, ◌-◌, ◌^◌, ◌<◌, ◌≤◌, [], ◌∷◌, ◌++◌, length, map, take, drop, slice_set};
 ghost use Rattle.machine.specs.declared.frame.Register.TheVariants.{Variable};
 ghost use Rattle.machine.specs.Level.{level, level_of, value_of, value, still, onward, jumped, exchanged, variables, given};

@@ -35,7 +35,7 @@ impl Frame {
         requires { b < length (level_of self.now).registers }
         ensures { result ≡ value (level_of self.now) b + n }
     {
-        self.read(b) as u64 + n as u64
+        u64::from(self.read(b)) + u64::from(n)
     }
 }
 

@@ -84,6 +84,7 @@ fn stop_at<H: Host>(
     stop_within(rt, entries, rows, image, host, 1000)
 }
 
+// As in the tests of packing: a crate that the tests share would be longer than these two.
 fn row(op: u8, a: u8, b: u8, c: u8, n: u32) -> Row {
     Row { op, a, b, c, n }
 }

@@ -105,7 +105,8 @@ impl Routine<'_> {
         instr.access(called, self.signature())
     }
 
-    // Whether an instruction keeps a rule.
+    // Whether an instruction keeps a rule. One match names all seven: closures in their place would be the same list, in a
+    // table that no function may hand out.
     fn keeps(&self, rule: Rule, rows: &[ShapeRow], i: usize) -> bool
         requires within { Within rule self.now rows.now }
         requires index { i < count (bytes_in self.now) self.now.index }

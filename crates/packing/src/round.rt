@@ -15,6 +15,9 @@ use module::open::open;
 use module::shape::ShapeRow;
 use refusal::Refusal;
 
+// The entries and rows that are lent stay two: of a struct that lent both, the caller would not know from the contract
+// what each holds afterwards.
+
 /// Takes a checked module apart into the caller's entries and rows, and puts it together again: the output then begins with
 /// the module's own bytes.
 pub fn repack(

@@ -85,6 +85,7 @@ pub enum Refusal {
 
 impl Refusal {
     /// The number by which the documents name the refusal.
+    // A number, since documents, programs and the modules' authors know refusals by it.
     pub fn number(self) -> u8
         ensures { result ≡ (values_of self).number }
     {
