@@ -8,6 +8,6 @@ pub struct Row {
     pub n: u32,
 }
 
-/// What a row is, or a field of one, that stands for nothing.
+/// Why a number is refused that stands for nothing in a row.
 #[derive(Clone, Copy, PartialEq, Eq, Debug)]
 pub struct Malformed;
