@@ -4,7 +4,7 @@ use module::open::open;
 use module::shape::ShapeRow;
 use refusal::Refusal;
 
-/// The number, the layer, the routine and the instruction of a refusal.
+/// The number, the layer, the routine and the instruction of a refusal, as the documents have them.
 #[derive(Clone, Copy, PartialEq, Eq, Debug)]
 pub(crate) struct Refused(pub u8, pub u8, pub u16, pub u16);
 

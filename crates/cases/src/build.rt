@@ -1,5 +1,6 @@
 //! Modules put together for tests.
 
+use isa::access::Signature;
 use isa::instr::Instr;
 use isa::row::Row;
 use std::alloc::{AllocError, Global};
@@ -20,8 +21,7 @@ pub(crate) const RAMP: [u8; 60] = [
 #[derive(Clone, Copy)]
 struct Routine<'a> {
     instrs: &'a [Instr],
-    arguments: u8,
-    results: u8,
+    signature: Signature,
 }
 
 fn push_instr(bytes: &mut Vec<u8>, instr: Instr) -> Result<(), AllocError> {
@@ -30,7 +30,7 @@ fn push_instr(bytes: &mut Vec<u8>, instr: Instr) -> Result<(), AllocError> {
     bytes.extend_from_slice(&n.to_le_bytes())
 }
 
-// A module of these routines and no image.
+// A module of these routines and no image. Not by pack: it would refuse the wrong ones that tests want.
 fn module_of(heap: Global, routines: &[Routine]) -> Result<Vec<u8>, AllocError> {
     let mut bytes = Vec::new(heap);
     bytes.extend_from_slice(&routines.len().to_le_bytes()[0..2])?;
@@ -40,7 +40,8 @@ fn module_of(heap: Global, routines: &[Routine]) -> Result<Vec<u8>, AllocError> 
         let count = routine.instrs.len();
         bytes.extend_from_slice(&offset.to_le_bytes()[0..4])?;
         bytes.extend_from_slice(&count.to_le_bytes()[0..2])?;
-        bytes.extend_from_slice(&[routine.arguments, routine.results])?;
+        let Signature { arguments, results } = routine.signature;
+        bytes.extend_from_slice(&[arguments, results])?;
         offset = count.saturating_mul(8).saturating_add(offset);
     }
     for routine in routines {
@@ -54,14 +55,13 @@ fn module_of(heap: Global, routines: &[Routine]) -> Result<Vec<u8>, AllocError> 
 fn main_routine(instrs: &[Instr]) -> Routine<'_> {
     Routine {
         instrs,
-        arguments: 0,
-        results: 0,
+        signature: Signature::default(),
     }
 }
 
 /// A module of one routine.
-pub(crate) fn single(heap: Global, rows: &[Instr]) -> Result<Vec<u8>, AllocError> {
-    module_of(heap, &[main_routine(rows)])
+pub(crate) fn single(heap: Global, instrs: &[Instr]) -> Result<Vec<u8>, AllocError> {
+    module_of(heap, &[main_routine(instrs)])
 }
 
 /// A module of two routines, where the second takes and gives something.
@@ -74,8 +74,7 @@ pub(crate) fn pair(
 ) -> Result<Vec<u8>, AllocError> {
     let second = Routine {
         instrs: second,
-        arguments,
-        results,
+        signature: Signature { arguments, results },
     };
     module_of(heap, &[main_routine(main), second])
 }

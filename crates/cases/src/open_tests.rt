@@ -18,9 +18,7 @@ fn the_ramp_is_accepted_at_its_own_length_only(rt: HostRuntime) -> Result<(), Fa
 
 #[test]
 fn an_opened_module_shows_the_bytes_and_counts(rt: HostRuntime) -> Result<(), Fail> {
-    let Ok(opened) = open(&RAMP) else {
-        return Err(Fail::new("the ramp opens"));
-    };
+    let opened = open(&RAMP)?;
     assert_eq!(rt; opened.counts().routines, 1);
     assert_eq!(rt; opened.counts().total, 6);
     assert_eq!(rt; opened.counts().image, 0);
@@ -84,12 +82,8 @@ fn a_hundred_thousand_bytes(rt: HostRuntime) -> Result<(), Fail> {
 #[test]
 fn a_taken_module_shows_the_same(rt: HostRuntime) -> Result<(), Fail> {
     let mut sheet = [ShapeRow::BLANK; 6];
-    let Ok(opened) = open(&RAMP) else {
-        return Err(Fail::new("the ramp opens"));
-    };
-    let Ok(()) = opened.check(&mut sheet) else {
-        return Err(Fail::new("the ramp is accepted"));
-    };
+    let opened = open(&RAMP)?;
+    opened.check(&mut sheet)?;
     let checked = opened.take();
     assert_eq!(rt; checked.counts().total, 6);
     assert!(rt; checked.bytes().len() == 60);

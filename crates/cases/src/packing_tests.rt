@@ -47,6 +47,7 @@ fn entry(count: u16, arguments: u8, results: u8) -> Entry {
     }
 }
 
+// As in the tests of the machine: a crate that the tests share would be longer than these two.
 fn row(op: u8, a: u8, b: u8, c: u8, n: u32) -> Row {
     Row { op, a, b, c, n }
 }
@@ -175,13 +176,9 @@ fn unpack_with_one_too_few_changes_nothing(rt: HostRuntime) {
 
 #[test]
 fn the_image_is_the_end_of_the_bytes(rt: HostRuntime) -> Result<(), Fail> {
-    let Ok(image) = show_image(&TWO_ROUTINES) else {
-        return Err(Fail::new("the module is accepted"));
-    };
+    let image = show_image(&TWO_ROUTINES)?;
     assert!(rt; image[..] == [0xDC, 0x05, 0xC8]);
-    let Ok(none) = show_image(&RAMP) else {
-        return Err(Fail::new("the ramp is accepted"));
-    };
+    let none = show_image(&RAMP)?;
     assert!(rt; none.is_empty());
     Ok(())
 }
@@ -369,9 +366,7 @@ fn many_routines(rt: &impl Abort, image: &[u8], size: usize) -> Result<(), Fail>
     assert!(rt; back_entries[64..67] == [OTHER_ENTRY; 3]);
     assert!(rt; back_rows[0..64] == rows[..]);
     assert!(rt; back_rows[64..67] == [OTHER_ROW; 3]);
-    let Ok(opened) = open(&output[0..size.min(5125)]) else {
-        return Err(Fail::new("what was packed opens at its length"));
-    };
+    let opened = open(&output[0..size.min(5125)])?;
     assert_eq!(rt; opened.counts().image, image.len());
     assert_eq!(rt; output[size.min(5124)], OTHER_BYTE);
     Ok(())

@@ -4,7 +4,7 @@ ghost use Rattle.isa.specs.Access.{access, callee, target, ends, span, one, touc
 use crate::instr::Instr;
 
 /// What a routine takes and gives.
-#[derive(Clone, Copy, PartialEq, Eq, Debug)]
+#[derive(Clone, Copy, PartialEq, Eq, Debug, Default)]
 pub struct Signature {
     pub arguments: u8,
     pub results: u8,
@@ -18,6 +18,7 @@ pub struct Span {
 }
 
 /// The registers that an instruction reads, and those that it writes.
+// Pairs: the definitions read the two of a pair by name, where of an array they would read places of a list.
 #[derive(Clone, Copy, PartialEq, Eq, Debug)]
 pub struct Access {
     pub reads: (Span, Span),

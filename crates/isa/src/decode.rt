@@ -92,6 +92,8 @@ impl TryFrom<u8> for Test {
 }
 
 /// The instruction of a row, or none if the row is not well formed.
+// One match over opcodes, with guards on widths and kinds: so the form of a row is read in one place. As a `TryFrom` for
+// `Instr` it took a third more instructions.
 pub fn decode(row: Row) -> Option<Instr>
     ensures { result ≡ decoded row }
 {

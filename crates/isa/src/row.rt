@@ -8,6 +8,6 @@ pub struct Row {
     pub n: u32,
 }
 
-/// Why a number is refused that stands for nothing in a row.
+/// Why a number is refused that names nothing of its kind.
 #[derive(Clone, Copy, PartialEq, Eq, Debug)]
 pub struct Malformed;

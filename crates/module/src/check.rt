@@ -47,6 +47,7 @@ impl Opened<'_> {
         ensures sheet { sheet.new ≡ sheet_after (bytes_of self.now) sheet.old }
         ensures accepts { OnOk result (accepted (bytes_of self.now) ≡ true) }
     {
+        // A test and a range: of the sheet after `get_mut(..total)` a proof knows only the length.
         let total = self.counts.total;
         if sheet.len() < total {
             return Err(Refusal::Sheet);

@@ -4,7 +4,7 @@ ghost use Rattle.module.specs.Layout.{right};
 use crate::limits;
 
 /// The entry of a routine, without its offset.
-#[derive(Clone, Copy, PartialEq, Eq, Debug)]
+#[derive(Clone, Copy, PartialEq, Eq, Debug, Default)]
 pub struct Entry {
     /// The number of instructions.
     pub count: u16,

@@ -20,7 +20,8 @@ fn sum_entries(bytes: &[u8], routines: usize) -> Result<usize, Refusal>
     ensures short { IfOk result (λ t. t ≤ 4096) }
     ensures octets { Octets bytes.now }
 {
-    // pack has a loop of its own: one for both would take a closure, and so ask its public callers that it may be called.
+    // Over a range, as the number is the place of the refusal. pack has a loop of its own: one function for both would take
+    // closures for the entry and its test, and be no plainer than two loops.
     let mut sum = 0;
     for routine in 0..routines {
         let entry = entry_of(bytes, routine);

@@ -78,6 +78,7 @@ impl Routine<'_> {
     fn callee_holds(&self, instr: Instr) -> bool
         ensures { result ≡ calls (bytes_in self.now) instr }
     {
+        // Not by is_none_or: of what its closure gives the proof knows too little.
         match instr.callee() {
             Some(n) => (n as usize) < self.module.counts.routines,
             None => true,
@@ -90,10 +91,7 @@ impl Routine<'_> {
     {
         match instr.callee() {
             Some(n) => self.module.routine(n as usize).signature(),
-            None => Signature {
-                arguments: 0,
-                results: 0,
-            },
+            None => Signature::default(),
         }
     }
 

@@ -57,6 +57,7 @@ impl<'a> Checked<'a> {
     {
         let routines = self.opened.counts.routines;
         let total = self.opened.counts.total;
+        // As in check.
         if entries.len() < routines || rows.len() < total {
             return Err(Refusal::Room);
         }

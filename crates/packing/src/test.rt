@@ -32,7 +32,7 @@ pub(crate) struct Tested<'a> {
 }
 
 // The number of instructions in all routines, if every entry is right.
-// As in module's open, which also tests offsets: a function for both would be public, and require that a closure may be called.
+// As in module's open, which also tests offsets: a function for both would take closures, and be no plainer than two loops.
 fn sum_entries(entries: &[Entry]) -> Result<usize, Refusal>
     requires { length entries.now ≤ 64 }
     ensures verdict { told result ≡ unless_wrong (first_failing (entry_right entries.now) (length entries.now) 0) (Ok (total entries.now)) }
@@ -99,7 +99,7 @@ impl<'a> Counted<'a> {
     }
 
     // The first place whose row is not well formed.
-    // As in module's breach: a function for both would be public, and require of its callers that its closures may be called.
+    // As in module's breach: a function over closures for both was tried, and needs four requires where each has none or two.
     fn first_malformed(&self) -> Option<Place>
         ensures first { result ≡ malformed self.now.parts.entries.now self.now.parts.rows.now }
         ensures words { result ≡ None → (k : ℕ) → k < length self.now.parts.rows.now → (row_at self.now.parts.rows.now k).n < 2 ^ 32 }

@@ -116,8 +116,13 @@ impl Refusal {
         ensures { layer_number result ≡ (values_of self).layer }
     {
         match self {
-            Refusal::Sheet | Refusal::Room | Refusal::Fuel | Refusal::Ended => Layer::Caller,
-            Refusal::Tripped | Refusal::Running | Refusal::Absent => Layer::Caller,
+            Refusal::Room
+            | Refusal::Sheet
+            | Refusal::Fuel
+            | Refusal::Ended
+            | Refusal::Tripped
+            | Refusal::Running
+            | Refusal::Absent => Layer::Caller,
             _ => Layer::Author,
         }
     }

@@ -46,12 +46,6 @@ const AGAIN: [Instr; 4] = [
 
 const END: [Instr; 1] = [Instr::Ret { a: 0 }];
 
-const NO_ENTRY: Entry = Entry {
-    count: 0,
-    arguments: 0,
-    results: 0,
-};
-
 fn push_rows(rows: &mut Vec<Row>, instrs: &[Instr]) -> Result<(), AllocError> {
     rows.extend(instrs.iter().map(|instr| encode(*instr)))
 }
@@ -66,7 +60,7 @@ fn module_of(heap: Global, times: u16) -> anyhow::Result<Vec<u8>> {
     push_rows(&mut rows, &END)?;
     let entry = Entry {
         count: times.saturating_mul(4).saturating_add(4),
-        ..NO_ENTRY
+        ..Entry::default()
     };
     let mut bytes = vec![in heap; 0; limits::deciding_length()]?;
     let parts = Parts {
@@ -111,7 +105,7 @@ fn measure(
     let both = time(rt, rounds, || {
         repack(
             &checked,
-            &mut [NO_ENTRY],
+            &mut [Entry::default()],
             rows.as_mut_slice(),
             output.as_mut_slice(),
         )
