@@ -37,8 +37,8 @@ impl Cause {
         ensures { layer_number result ≡ (cause_of self).layer }
     {
         match self {
+            Cause::ZeroDivisor | Cause::MemoryPassed { .. } | Cause::TooDeep => Layer::Engine,
             Cause::Host { refusal, .. } => refusal.layer(),
-            _ => Layer::Engine,
         }
     }
 

@@ -10,7 +10,8 @@ use refusal::Place;
 /// The most faults that are kept.
 pub const MOST_FAULTS: usize = 16;
 
-// What a row holds before a fault is put there; no answer shows it.
+// What a row holds before a fault is put there; no answer shows it. It is no None: `count` says which rows are used, and with
+// an Option in each row every read would unwrap it.
 const BLANK: Fault = Fault {
     cause: Cause::ZeroDivisor,
     place: Place {
@@ -75,6 +76,7 @@ impl FaultTable {
     {
         let gone = self.first(count).partition_point(|fault| fault.marked);
         let left = count - gone;
+        // The marked ones go behind the rows that are used.
         self.rows.rotate_left(gone);
         // By index: it is a rule that the table lends one record at a time, in a method of its own.
         for i in 0..left {
