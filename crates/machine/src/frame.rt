@@ -1,7 +1,9 @@
 ghost use Rattle.std.specs.Prelude.{◌≤◌};
 
+use module::limits;
+
 /// The most registers of a routine.
-pub const REGISTERS: usize = 32;
+pub const REGISTERS: usize = limits::REGISTERS as usize;
 
 /// A register: a variable, or a constant that DEF made.
 #[derive(Clone, Copy)]
@@ -17,6 +19,6 @@ pub struct Frame {
     pub(crate) pc: usize,
     // Fixed memory and a depth: nothing on the drive allocates.
     pub(crate) depth: usize,
-    pub(crate) registers: [Register; 32],
+    pub(crate) registers: [Register; REGISTERS],
     ghost few: { depth ≤ 32 },
 }

@@ -8,7 +8,7 @@ pub const MOST_NESTED: usize = 32;
 /// Which of the 32 frames is that of the running routine. The bound stands here and not in the stack, which could not lend a
 /// frame if it had a fact of its own.
 #[derive(Clone, Copy)]
-pub struct Top {
+pub(crate) struct Top {
     pub(crate) index: usize,
     ghost nested: { index < 32 },
 }
@@ -17,6 +17,6 @@ pub struct Top {
 #[derive(Drop)]
 pub struct Stack {
     // Fixed memory and its top: nothing on the drive allocates.
-    pub(crate) frames: [Frame; 32],
+    pub(crate) frames: [Frame; MOST_NESTED],
     pub(crate) top: Top,
 }
