@@ -30,8 +30,8 @@ impl<'a> TableHost<'a> {
     }
 }
 
-// Gives each row that is a port its rest value. It takes the slice itself, since of a part of a slice in a struct that was lent to
-// a loop a proof knows no element afterwards.
+// Gives each row that is a port its rest value. A free function over the slice: after a loop over a part of a slice that a struct
+// holds, a proof knows no element of it.
 fn rest_ports(rows: &mut [Port])
     ensures ports { take most_ports rows.new ≡ rested (take most_ports rows.old) }
     ensures past { drop most_ports rows.new ≡ drop most_ports rows.old }

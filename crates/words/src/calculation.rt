@@ -3,7 +3,8 @@ ghost use Rattle.words.specs.Words.{calculated, shifted_right};
 
 use isa::instr::Operation;
 
-// Shifted right, filled with the sign bit. With checked_shr the test of the sign from 32 on would stand here all the same.
+// Shifted right, filled with the sign bit. A shift by at most 31 bits, `c.min(31)`, was tried for both tests: that it leaves only
+// copies of the sign from 32 on stayed open.
 fn shift_signed(b: u32, c: u32) -> u32
     ensures { result ≡ shifted_right b c }
 {

@@ -36,6 +36,7 @@ fn quotient(kind: Kind, b: u32, c: u32) -> u32
     }
 }
 
+// It answers, and `divide` adds the law and the examples, which so are shown once.
 fn part_of(part: Part, kind: Kind, b: u32, c: u32) -> Option<u32>
     ensures { result ≡ divided part kind b c }
 {
