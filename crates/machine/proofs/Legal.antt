@@ -1,5 +1,5 @@
 -- What it asks of registers that an instruction has a rule there.
-use Rattle.std.proofs.Common.{◌≡◌, ℕ, ◌+◌, ◌<◌, ◌≤◌, Bool, true, false, cond, not, ◌&&◌, ◌||◌, eqb, ltb, List, [], ◌∷◌, length, get_or, Some, None, Option, sym, refl, ap, ◌∙◌, subst, arith}
+use Rattle.std.proofs.Common.{◌≡◌, ℕ, ◌+◌, ◌<◌, ◌≤◌, Bool, true, false, cond, not, ◌&&◌, ◌||◌, eqb, ltb, List, [], ◌∷◌, length, get_or, Some, None, Option, is_some, sym, refl, ap, ◌∙◌, subst, arith}
 use Rattle.std.proofs.lemmas.List.{length-map}
 use Rattle.std.proofs.lemmas.Bool.{and_parts, ltb-true, leb-true, eqb-true, ne_eqb, false≢true}
 use Rattle.isa.specs.declared.access.Access.{Access}
@@ -116,10 +116,15 @@ pub frame_ready : (checked : Checked) (m : Machine) (x : Instr) {y : Instr} (d :
 frame_ready checked m x {y} d whole h e is =
     subst (λ l. Ready (bytes_of checked.opened) l y) (running_is m.stack d whole) (stands_ready checked m x h e is)
 
+allowed_some : (bs : List ℕ) (l : Level) (o : Option Instr) → allowed_at bs l o ≡ true → is_some o ≡ true
+unfolding allowed_at
+allowed_some bs l None h = h
+allowed_some bs l (Some x) h = refl
+
 -- a routine that is able stands at an instruction
-pub stuck : (bs : List ℕ) (l : Level) (ls : List Level) → able bs l ls ≡ true → here bs l ≡ None → ⊥
-unfolding able allowed_at
-stuck bs l ls h e = false≢true (sym (ap (allowed_at bs l) e) ∙ (and_parts (allowed_at bs l (here bs l)) _ h).0)
+pub stands_somewhere : (bs : List ℕ) (l : Level) (ls : List Level) → able bs l ls ≡ true → is_some (here bs l) ≡ true
+unfolding able
+stands_somewhere bs l ls h = allowed_some bs l (here bs l) (and_parts (allowed_at bs l (here bs l)) _ h).0
 
 -- the newest of the routines that wait stands at a call of routine r
 pub record Waits (bs : List ℕ) (r : ℕ) (ls : List Level) : Type 0 where

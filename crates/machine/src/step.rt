@@ -65,9 +65,7 @@ impl Machine {
         if self.stack.callers() == MOST_NESTED - 1 {
             return Err(Cause::TooDeep);
         }
-        let Some(signature) = checked.signature(n as usize) else {
-            unreachable()
-        };
+        let signature = checked.signature(n as usize).unwrap();
         self.stack.enter(n as usize, b, signature.arguments);
         Ok(())
     }
@@ -88,13 +86,10 @@ impl Machine {
             self.state = State::Ended;
             return;
         }
-        let Some(signature) = checked.signature(self.stack.running().routine) else {
-            unreachable()
-        };
-        // In two steps: the other cases of Some(Instr::Call { .. }) in one would not say that it is no CALL.
-        let Some(call) = self.stack.caller().instruction(checked) else {
-            unreachable()
-        };
+        let signature = checked.signature(self.stack.running().routine).unwrap();
+        // Unwrapped first: of `Some(Instr::Call { .. })` in one pattern the default case does not say that it is no CALL, and
+        // `unreachable` stays open.
+        let call = self.stack.caller().instruction(checked).unwrap();
         let Instr::Call { a: into, .. } = call else {
             unreachable()
         };
@@ -223,9 +218,7 @@ impl Machine {
         ensures step { stepped (bytes_of checked.now.opened) (H.rule (H.base host.old)) (world_of self.old (H.ports host.old)) ≡ Some (world_of self.new (H.ports host.new)) }
         ensures base { H.base host.new ≡ H.base host.old }
     {
-        let Some(instr) = self.stack.running().instruction(checked) else {
-            unreachable()
-        };
+        let instr = self.stack.running().instruction(checked).unwrap();
         if let Err(cause) = self.perform(instr, checked, host) {
             self.trip(cause);
         }

@@ -1,4 +1,5 @@
-use Rattle.std.proofs.Common.{◌≡◌, ◌<◌, ltb, length, Some, refl, ap, ◌∙◌, arith}
+use Rattle.std.proofs.Common.{◌≡◌, ◌<◌, ltb, length, Some, sym, refl, ap, ◌∙◌, arith}
+use Rattle.std.specs.Option.{is_some}
 use Rattle.std.proofs.lemmas.Bool.{cond-true, cond-false, lt-ltb, le-ltb, ltb-true}
 use Rattle.isa.specs.declared.access.Signature.{Signature}
 use Rattle.module.specs.Layout.{routines, signature}
@@ -18,12 +19,11 @@ returns-then-callers-clause-tripped c = λ rule ports.
     let n = length (waiting c.args.self.now.stack) in
     cond-false (ltb n 31) _ _ (le-ltb n 31 (omega (arith, c.callers.ensures)))
 
-pub unreachable-requires : goal.unreachable-requires
-unreachable-requires c =
+pub unwrap-signature-requires : goal.unwrap-signature-requires
+unwrap-signature-requires c =
     let bs = bytes_of c.args.checked.now.opened in
     let r = stands_ready c.args.checked.now c.args.self.now _ c.requires.able c.requires.stands refl in
-    let given = c.in_default.ensures ∙ a_signature bs c.args.n (ltb-true c.args.n (routines bs) r.legal.called) in
-    cc
+    ap is_some (c.signature.ensures ∙ a_signature bs c.args.n (ltb-true c.args.n (routines bs) r.legal.called))
 
 pub enter-requires-clause-room : goal.enter-requires-clause-room
 enter-requires-clause-room c = omega (arith, few_waiting c.args.self.now.stack, c.callers.ensures, c.if-callers.false)
@@ -32,8 +32,8 @@ pub enter-requires-clause-there : goal.enter-requires-clause-there
 enter-requires-clause-there c =
     let bs = bytes_of c.args.checked.now.opened in
     let r = stands_ready c.args.checked.now c.args.self.now _ c.requires.able c.requires.stands refl in
-    let given : Some c.in-Some.signature ≡ Some (signature bs c.args.n) = c.in-Some.ensures ∙ a_signature bs c.args.n (ltb-true c.args.n (routines bs) r.legal.called) in
-    let told : c.in-Some.signature ≡ signature bs c.args.n = cc in
+    let given : Some c.unwrap-signature.result ≡ Some (signature bs c.args.n) = sym c.unwrap-signature.ensures ∙ c.signature.ensures ∙ a_signature bs c.args.n (ltb-true c.args.n (routines bs) r.legal.called) in
+    let told : c.unwrap-signature.result ≡ signature bs c.args.n = cc in
     omega (arith, r.legal.fit.read, ap (λ (x : Signature). x.arguments) told)
 
 pub returns-clause-done : goal.returns-clause-done
@@ -43,8 +43,8 @@ returns-clause-done c = λ rule ports.
     let s = c.args.self.now.stack in
     let n = length (waiting s) in
     let r = stands_ready c.args.checked.now c.args.self.now _ c.requires.able c.requires.stands refl in
-    let given : Some c.in-Some.signature ≡ Some (signature bs c.args.n) = c.in-Some.ensures ∙ a_signature bs c.args.n (ltb-true c.args.n (routines bs) r.legal.called) in
-    let told : c.in-Some.signature ≡ signature bs c.args.n = cc in
+    let given : Some c.unwrap-signature.result ≡ Some (signature bs c.args.n) = sym c.unwrap-signature.ensures ∙ c.signature.ensures ∙ a_signature bs c.args.n (ltb-true c.args.n (routines bs) r.legal.called) in
+    let told : c.unwrap-signature.result ≡ signature bs c.args.n = cc in
     let begun = c.enter.ensures.running ∙ ap (λ (x : Signature). level c.args.n 0 (copied (running s).registers c.args.b x.arguments)) told in
     let room : n < 31 = omega (arith, few_waiting s, c.callers.ensures, c.if-callers.false) in
     went c.requires.running refl (cond-true (ltb n 31) _ _ (lt-ltb n 31 room)) begun c.enter.ensures.waiting refl refl

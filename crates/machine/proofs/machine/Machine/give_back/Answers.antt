@@ -1,4 +1,5 @@
 use Rattle.std.proofs.Common.{◌≡◌, ℕ, eqb, true, false, Some, Option, sym, refl, ap, ◌∙◌, arith}
+use Rattle.std.specs.Option.{is_some}
 use Rattle.std.proofs.lemmas.Bool.{cond-true, cond-false, eqb-false}
 use Rattle.isa.specs.declared.access.Signature.{Signature}
 use Rattle.isa.specs.declared.instr.Instr.{Instr}
@@ -44,35 +45,33 @@ unfolding effect
 returns-then-ends_run c = λ rule ports.
     has_ended c.requires.running (cond-true (eqb (running c.args.self.now.stack).routine 0) _ _ (sym c.if-ends_run.ensures)) refl refl
 
-pub unreachable-requires : goal.unreachable-requires
-unreachable-requires c =
+pub unwrap-signature-requires : goal.unwrap-signature-requires
+unwrap-signature-requires c =
     let r = ret c.args.checked.now c.args.self.now c.args.a c.requires.able c.requires.stands in
     let bs = bytes_of c.args.checked.now.opened in
-    let given = c.in_default.ensures ∙ ap (λ l. signature_at bs l.routine) c.running.ensures ∙ a_signature bs _ r.routine in
-    cc
+    ap is_some (c.signature.ensures ∙ ap (λ l. signature_at bs l.routine) c.running.ensures ∙ a_signature bs _ r.routine)
 
 pub caller-requires : goal.caller-requires
 caller-requires c = (waits c.args.checked.now c.args.self.now c.args.a c.requires.able c.requires.stands c.if-ends_run.ensures).some
 
-pub unreachable-requires-in_default-instruction : goal.unreachable-requires-in_default-instruction
-unreachable-requires-in_default-instruction c =
-    let there = stands_there c.args.checked.now c.args.self.now c.args.a c.requires.able c.requires.stands c.if-ends_run.ensures _ c.caller.ensures _ c.in_default-instruction.ensures in
-    cc
+pub unwrap-call-requires : goal.unwrap-call-requires
+unwrap-call-requires c =
+    ap is_some (stands_there c.args.checked.now c.args.self.now c.args.a c.requires.able c.requires.stands c.if-ends_run.ensures _ c.caller.ensures _ c.instruction.ensures)
 
-pub unreachable-requires-in_default-call : goal.unreachable-requires-in_default-call
-unreachable-requires-in_default-call c =
+pub unreachable-requires : goal.unreachable-requires
+unreachable-requires c =
     let w = waits c.args.checked.now c.args.self.now c.args.a c.requires.able c.requires.stands c.if-ends_run.ensures in
-    let there = stands_there c.args.checked.now c.args.self.now c.args.a c.requires.able c.requires.stands c.if-ends_run.ensures _ c.caller.ensures _ c.in-Some-instruction.ensures in
-    let is : c.in-Some-instruction.call ≡ Call w.a w.b (running c.args.self.now.stack).routine = cc in
-    c.in_default-call.not-Call w.a w.b (running c.args.self.now.stack).routine is
+    let there = stands_there c.args.checked.now c.args.self.now c.args.a c.requires.able c.requires.stands c.if-ends_run.ensures _ c.caller.ensures _ (sym c.unwrap-call.ensures ∙ c.instruction.ensures) in
+    let is : c.unwrap-call.result ≡ Call w.a w.b (running c.args.self.now.stack).routine = cc in
+    c.in_default.not-Call w.a w.b (running c.args.self.now.stack).routine is
 
 pub leave-requires : goal.leave-requires
 leave-requires c =
     let r = ret c.args.checked.now c.args.self.now c.args.a c.requires.able c.requires.stands in
     let w = waits c.args.checked.now c.args.self.now c.args.a c.requires.able c.requires.stands c.if-ends_run.ensures in
-    let n = count c.args.checked.now c.args.self.now c.args.a c.requires.able c.requires.stands c.in-Some.signature (c.in-Some.ensures ∙ ap (λ l. signature_at (bytes_of c.args.checked.now.opened) l.routine) c.running.ensures) in
-    let there = stands_there c.args.checked.now c.args.self.now c.args.a c.requires.able c.requires.stands c.if-ends_run.ensures _ c.caller.ensures _ c.in-Some-instruction.ensures in
-    let same : Some c.in-Some-instruction.call ≡ Some (Call w.a w.b (running c.args.self.now.stack).routine) = there in
+    let n = count c.args.checked.now c.args.self.now c.args.a c.requires.able c.requires.stands c.unwrap-signature.result (sym c.unwrap-signature.ensures ∙ c.signature.ensures ∙ ap (λ l. signature_at (bytes_of c.args.checked.now.opened) l.routine) c.running.ensures) in
+    let there = stands_there c.args.checked.now c.args.self.now c.args.a c.requires.able c.requires.stands c.if-ends_run.ensures _ c.caller.ensures _ (sym c.unwrap-call.ensures ∙ c.instruction.ensures) in
+    let same : Some c.unwrap-call.result ≡ Some (Call w.a w.b (running c.args.self.now.stack).routine) = there in
     let is = c.in-Call.is in
     let first : c.in-Call.into ≡ w.a = cc in
     record {
@@ -90,9 +89,9 @@ returns c = λ rule ports.
     let l = running m.stack in
     let g = first_of (waiting m.stack) in
     let w = waits c.args.checked.now m c.args.a c.requires.able c.requires.stands c.if-ends_run.ensures in
-    let n = count c.args.checked.now m c.args.a c.requires.able c.requires.stands c.in-Some.signature (c.in-Some.ensures ∙ ap (λ l. signature_at (bytes_of c.args.checked.now.opened) l.routine) c.running.ensures) in
-    let there = stands_there c.args.checked.now m c.args.a c.requires.able c.requires.stands c.if-ends_run.ensures _ c.caller.ensures _ c.in-Some-instruction.ensures in
-    let same : Some c.in-Some-instruction.call ≡ Some (Call w.a w.b (running c.args.self.now.stack).routine) = there in
+    let n = count c.args.checked.now m c.args.a c.requires.able c.requires.stands c.unwrap-signature.result (sym c.unwrap-signature.ensures ∙ c.signature.ensures ∙ ap (λ l. signature_at (bytes_of c.args.checked.now.opened) l.routine) c.running.ensures) in
+    let there = stands_there c.args.checked.now m c.args.a c.requires.able c.requires.stands c.if-ends_run.ensures _ c.caller.ensures _ (sym c.unwrap-call.ensures ∙ c.instruction.ensures) in
+    let same : Some c.unwrap-call.result ≡ Some (Call w.a w.b (running c.args.self.now.stack).routine) = there in
     let is = c.in-Call.is in
     let first : c.in-Call.into ≡ w.a = cc in
     let wants : into bs g.routine (here bs g) ≡ w.a = ap (into bs g.routine) w.caller.stands in
