@@ -46,6 +46,7 @@ wrote l a v = onward l (slice_set l.registers a (Variable v))
 abbrev pub exchanged : Level → ℕ → ℕ → List Register
 exchanged l a b = slice_set (slice_set l.registers a (Variable (value l b))) b (Variable (value l a))
 
+-- one instruction on, registers a and b having exchanged their values
 abbrev pub swapped : Level → ℕ → ℕ → Level
 swapped l a b = onward l (exchanged l a b)
 
@@ -53,10 +54,11 @@ swapped l a b = onward l (exchanged l a b)
 abbrev pub jumped : Level → ℕ → Level
 jumped l n = level l.routine n l.registers
 
--- registers copied as variables, and count of them from b on
+-- registers copied as variables
 abbrev pub variables : List Register → List Register
 variables registers = map (λ x. Variable (value_of x)) registers
 
+-- count registers from b on, copied as variables
 abbrev pub copied : List Register → ℕ → ℕ → List Register
 copied registers b count = variables (take count (drop b registers))
 

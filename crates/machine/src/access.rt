@@ -6,7 +6,7 @@ ghost use Rattle.machine.specs.Memory.{fits, loading, storing, loaded, stored};
 use crate::memory::{BYTES, Memory};
 use isa::instr::Width;
 
-// Whether an access lies in memory.
+// Whether an access lies in memory. The test is the rule's, on a number of 64 bits, before the address becomes an index.
 fn is_inside(address: u64, width: Width) -> bool
     ensures { result ≡ fits address width }
 {

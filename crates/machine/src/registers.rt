@@ -1,5 +1,6 @@
 // What an instruction does to the registers of the running routine. That a register is there relates an argument to the
-// frame: it is a fact of neither alone, and each method asks it.
+// frame: it is a fact of neither alone, and each method asks it. Numbers of registers become indices by `as`: from u8 it loses
+// nothing, and `usize::from` says it no plainer.
 ghost use Rattle.std.specs.Prelude.{◌≡◌, ◌+◌, ◌-◌, ◌^◌, ◌<◌, ◌≤◌, [], ◌∷◌, ◌++◌, length, map, take, drop, slice_set};
 ghost use Rattle.machine.specs.declared.frame.Register.TheVariants.{Variable};
 ghost use Rattle.machine.specs.Level.{level, level_of, value_of, value, still, onward, jumped, exchanged, variables, given};

@@ -189,6 +189,7 @@ impl Machine {
                 Ok(())
             }
             Instr::Get { a, c } => {
+                // By `as`, here and in PUT: from u8 it loses nothing, and `usize::from` says it no plainer.
                 let port = c as usize;
                 let answer = host.read(port);
                 let v = answer.map_err(|refusal| Cause::Host { refusal, port })?;
