@@ -1,5 +1,5 @@
 -- What bench says of a module.
-use Rattle.std.specs.Prelude.{ℕ, List, Ok, Err, Result}
+use Rattle.std.specs.Prelude.{ℕ, List, Ok, Result}
 use Rattle.std.specs.Result.{result_and}
 use Rattle.refusal.specs.Values.{Values}
 use Rattle.module.specs.declared.opened.Counts.{Counts}

@@ -1,5 +1,5 @@
 -- What pack answers, and what it leaves in the output.
-use Rattle.std.specs.Prelude.{ℕ, ◌+◌, ◌-◌, ◌*◌, Bool, cond, List, ◌++◌, length, drop, is_ok, Some, None, Ok, Err, Option, Result, ◌==◌, nat_le}
+use Rattle.std.specs.Prelude.{ℕ, ◌+◌, ◌-◌, ◌*◌, Bool, cond, List, ◌++◌, length, drop, is_ok, Ok, Option, Result, ◌==◌, nat_le}
 use Rattle.refusal.specs.Values.{Values, author, author_at, caller}
 use Rattle.refusal.specs.declared.Place.{Place}
 use Rattle.isa.specs.declared.row.Row.{Row}

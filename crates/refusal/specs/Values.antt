@@ -1,5 +1,5 @@
 -- The four numbers of a refusal, by which every promise speaks of it.
-use Rattle.std.specs.Prelude.{ℕ, Some, None, Ok, Err, Option, Result}
+use Rattle.std.specs.Prelude.{ℕ, Option, Result}
 use Rattle.std.specs.Option.{unwrap_or}
 use Rattle.std.specs.Result.{result_map_both}
 use Rattle.refusal.specs.declared.Layer.{Layer}
