@@ -37,9 +37,9 @@ fn tells(rt: &impl Abort, cause: Cause, number: u8, layer: u8, detail: u64) {
 
 // Wants the fault at place i to have been added by `filled` for this address, and to have this mark.
 fn shows(rt: &impl Abort, list: &FaultList, i: usize, address: u16, mark: u8) -> Result<(), Fail> {
-    let Some(fault) = list.get(i) else {
-        return Err(Fail::new("no fault at this place"));
-    };
+    let fault = list
+        .get(i)
+        .ok_or_else(|| Fail::new("no fault at this place"))?;
     tells(rt, fault.cause, 2, 2, u64::from(address));
     assert_eq!(rt; fault.place.routine, 1);
     assert_eq!(rt; fault.place.instruction, address);
