@@ -132,6 +132,8 @@ impl Frame {
         requires { into + length results.now ≤ length (level_of self.old).registers }
         ensures { level_of self.new ≡ still (level_of self.old) (given (level_of self.old).registers into (map value_of results.now)) }
     {
+        // By index: with `self.registers[into as usize..].iter_mut().zip(results)` what the registers hold after the loop stayed open,
+        // as a proof knows nothing of what an adapter of `iter_mut` gives back.
         for (k, result) in results.iter().enumerate() {
             self.write(into + k as u8, result.value());
         }
