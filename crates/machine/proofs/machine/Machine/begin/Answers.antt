@@ -1,18 +1,10 @@
-use Rattle.std.proofs.Common.{◌+◌, ◌-◌, ◌*◌, ◌∷◌, ◌++◌, length, replicate, ap, ◌∙◌, arith, length-drop}
-use Rattle.module.specs.Layout.{routines, total}
+use Rattle.std.proofs.Common.{◌-◌, ◌∷◌, ◌++◌, length, replicate, ap, ◌∙◌}
 use Rattle.module.specs.Told.{bytes_of}
 use Rattle.module.proofs.Accepts.{accepts_checked}
-use Rattle.module.proofs.Opens.{opened_laid}
 use Rattle.machine.specs.View.{world_of}
 use Rattle.machine.specs.World.{world, running}
 use Rattle.machine.proofs.Soundness.{never_stuck}
 use Rattle.machine.proofs.machine.Machine.begin.Goals as goal
-
-pub holding-requires : goal.holding-requires
-holding-requires c =
-    let bs = bytes_of c.args.checked.now.opened in
-    let laid = opened_laid c.args.checked.now.opened in
-    omega (arith, ap length c.image.ensures, length-drop (4 + 8 * routines bs + 8 * total bs) bs, laid.long, laid.image)
 
 pub returns : goal.returns
 unfolding world_of

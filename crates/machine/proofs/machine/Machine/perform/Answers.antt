@@ -1,7 +1,7 @@
 use Rattle.std.proofs.Common.{◌≡◌, ◌+◌, ◌∷◌, Bool, true, false, cond, get_or, Some, None, Ok, Err, sym, refl, ap, ◌∙◌, subst, rules, arith}
 use Rattle.std.proofs.lemmas.Bool.{cond-true, cond-false, leb-true}
 use Rattle.std.specs.Option.{is_some}
-use Rattle.std.proofs.lemmas.Result.{on_ok_weaker, on_err_weaker, IfErr-weaker}
+use Rattle.std.proofs.lemmas.Result.{on_ok_weaker, IfErr-weaker}
 use Rattle.words.specs.Words.{calculated, divided, passing}
 use Rattle.host.specs.declared.port.HostRefusal.{HostRefusal}
 use Rattle.host.specs.Ports.{writing, written}
@@ -286,20 +286,6 @@ returns-in_err-ok_or-in-Store-clause-tripped g c =
     let pass : fits at w ≡ false = sym answer ∙ ap is_some none in
     rw (tripped, c.in-Store.is, running_is m.stack c.index-self-self.result (omega arith)) (cond-false (fits at w) _ _ pass ∙ ap (λ a. trips (by_engine 2 a)) (sym address))
 
-pub returns-in_err-ok_or-in-Store-clause-unchanged : goal.returns-in_err-ok_or-in-Store-clause-unchanged
-returns-in_err-ok_or-in-Store-clause-unchanged g c =
-    let m = c.args.self.now in
-    let l = level_of (get_or m.stack.frames m.stack.top.index c.index-self-self.result) in
-    let at = value l c.in-Store.b + c.in-Store.n in
-    let w = c.in-Store.width in
-    let address : c.address-address-in-Store.result ≡ at = c.address-address-in-Store.ensures in
-    let answer : is_some c.store-stored.result ≡ fits at w = c.store-stored.ensures.answer ∙ ap (λ a. fits a w) address in
-    let stores : c.store-stored.new.self.bytes ≡ storing m.memory.bytes at w (value l c.in-Store.a) =
-    c.store-stored.ensures.memory ∙ (λ i. storing m.memory.bytes (address i) w (c.read-in-Store.ensures i)) in
-    let none : c.store-stored.result ≡ None = search rules in
-    let pass : fits at w ≡ false = sym answer ∙ ap is_some none in
-    on_err c.from_residual-in_err-ok_or-in-Store.result (λ i. record { state = m.state; stack = (put_back m (omega arith) c.index-self-self.result i).stack; memory = record { bytes = (stores ∙ cond-false (fits at w) _ _ pass) i } })
-
 pub returns-in_ok-ok_or-in-Store-clause-done : goal.returns-in_ok-ok_or-in-Store-clause-done
 unfolding effect
 returns-in_ok-ok_or-in-Store-clause-done g c =
@@ -333,18 +319,6 @@ returns-else-passes-clause-done g c =
     let goes_to = λ (b : Bool). goes (cond b (jumped l c.in-Branch.n) (next l) ∷ waiting m.stack) m.memory.bytes (g.H.Host.ports c.args.host.now) in
     let test = c.if-passes.ensures ∙ (λ i. passing c.in-Branch.test (c.read-in-Branch.ensures i) (c.read-in-Branch-2.ensures i)) in
     went_on m (omega arith) c.index-self-self.result _ c.requires.running c.in-Branch.is (ap goes_to (sym test)) c.skip-else-passes.ensures
-
-pub returns-in_err-v-in-Divide-clause-unchanged : goal.returns-in_err-v-in-Divide-clause-unchanged
-returns-in_err-v-in-Divide-clause-unchanged g c = on_err c.from_residual.result (put_back c.args.self.now (omega arith) c.index-self-self.result)
-
-pub returns-in_err-v-in-Load-clause-unchanged : goal.returns-in_err-v-in-Load-clause-unchanged
-returns-in_err-v-in-Load-clause-unchanged g c = on_err c.from_residual-in_err-v-in-Load.result (put_back c.args.self.now (omega arith) c.index-self-self.result)
-
-pub returns-in_err-v-in-Get-clause-unchanged : goal.returns-in_err-v-in-Get-clause-unchanged
-returns-in_err-v-in-Get-clause-unchanged g c = on_err c.from_residual-in_err-v-in-Get.result (put_back c.args.self.now (omega arith) c.index-self-self.result)
-
-pub returns-in_err-map_err-in-Put-clause-unchanged : goal.returns-in_err-map_err-in-Put-clause-unchanged
-returns-in_err-map_err-in-Put-clause-unchanged g c = on_err c.from_residual-in_err-map_err-in-Put.result (put_back c.args.self.now (omega arith) c.index-self-self.result)
 
 pub call-requires : goal.call-requires
 call-requires g c =
@@ -382,12 +356,6 @@ returns-in-Call-clause-tripped g c =
     rw c.in-Call.is
     (IfErr-weaker c.call.result _ _
     (λ cause tripped. ap (λ (n : Machine). effect_in (bytes_of c.args.checked.now.opened) (g.H.Host.rule (g.H.Host.base c.args.host.now)) (Call c.in-Call.a c.in-Call.b c.in-Call.n) n (g.H.Host.ports c.args.host.now)) (sym same) ∙ tripped (g.H.Host.rule (g.H.Host.base c.args.host.now)) (g.H.Host.ports c.args.host.now)) c.call.ensures.tripped)
-
-pub returns-in-Call-clause-unchanged : goal.returns-in-Call-clause-unchanged
-returns-in-Call-clause-unchanged g c =
-    let m = c.args.self.now in
-    let same = put_back m (omega arith) c.index-self-self.result in
-    on_err_weaker c.call.result (λ e. e ∙ same) c.call.ensures.unchanged
 
 pub returns-in-Ret-clause-done : goal.returns-in-Ret-clause-done
 returns-in-Ret-clause-done g c =
