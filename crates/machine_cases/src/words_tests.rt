@@ -249,6 +249,113 @@ fn quotients_and_remainders(rt: HostRuntime) {
     divides(&rt, 0, 4294967295, &[(0, 0), (0, 0), (0, 0)]);
 }
 
+// Wants a part of each division of one kind: a row for each b, with a result for each c but 0.
+fn keeps(rt: &impl Abort, part: Part, kind: Kind, results: &[[u32; 7]; 8]) {
+    for (b, row) in WORDS.iter().zip(results) {
+        for (c, result) in WORDS[1..].iter().zip(row) {
+            assert_eq!(rt; divide(part, kind, *b, *c), Some(*result));
+        }
+    }
+}
+
+const QUOTIENTS_UNSIGNED: [[u32; 7]; 8] = [
+    [0, 0, 0, 0, 0, 0, 0],
+    [1, 0, 0, 0, 0, 0, 0],
+    [31, 1, 0, 0, 0, 0, 0],
+    [32, 1, 1, 0, 0, 0, 0],
+    [33, 1, 1, 1, 0, 0, 0],
+    [0x7FFFFFFF, 0x04210842, 0x03FFFFFF, 0x03E0F83E, 1, 0, 0],
+    [0x80000000, 0x04210842, 0x04000000, 0x03E0F83E, 1, 1, 0],
+    [0xFFFFFFFF, 0x08421084, 0x07FFFFFF, 0x07C1F07C, 2, 1, 1],
+];
+
+const QUOTIENTS_TOWARDS_ZERO: [[u32; 7]; 8] = [
+    [0, 0, 0, 0, 0, 0, 0],
+    [1, 0, 0, 0, 0, 0, 0xFFFFFFFF],
+    [31, 1, 0, 0, 0, 0, 0xFFFFFFE1],
+    [32, 1, 1, 0, 0, 0, 0xFFFFFFE0],
+    [33, 1, 1, 1, 0, 0, 0xFFFFFFDF],
+    [
+        0x7FFFFFFF, 0x04210842, 0x03FFFFFF, 0x03E0F83E, 1, 0, 0x80000001,
+    ],
+    [
+        0x80000000, 0xFBDEF7BE, 0xFC000000, 0xFC1F07C2, 0xFFFFFFFF, 1, 0x80000000,
+    ],
+    [0xFFFFFFFF, 0, 0, 0, 0, 0, 1],
+];
+
+const QUOTIENTS_DOWNWARDS: [[u32; 7]; 8] = [
+    [0, 0, 0, 0, 0, 0, 0],
+    [1, 0, 0, 0, 0, 0xFFFFFFFF, 0xFFFFFFFF],
+    [31, 1, 0, 0, 0, 0xFFFFFFFF, 0xFFFFFFE1],
+    [32, 1, 1, 0, 0, 0xFFFFFFFF, 0xFFFFFFE0],
+    [33, 1, 1, 1, 0, 0xFFFFFFFF, 0xFFFFFFDF],
+    [
+        0x7FFFFFFF, 0x04210842, 0x03FFFFFF, 0x03E0F83E, 1, 0xFFFFFFFF, 0x80000001,
+    ],
+    [
+        0x80000000, 0xFBDEF7BD, 0xFC000000, 0xFC1F07C1, 0xFFFFFFFE, 1, 0x80000000,
+    ],
+    [
+        0xFFFFFFFF, 0xFFFFFFFF, 0xFFFFFFFF, 0xFFFFFFFF, 0xFFFFFFFF, 0, 1,
+    ],
+];
+
+const REMAINDERS_UNSIGNED: [[u32; 7]; 8] = [
+    [0, 0, 0, 0, 0, 0, 0],
+    [0, 1, 1, 1, 1, 1, 1],
+    [0, 0, 31, 31, 31, 31, 31],
+    [0, 1, 0, 32, 32, 32, 32],
+    [0, 2, 1, 0, 33, 33, 33],
+    [0, 1, 31, 1, 0, 0x7FFFFFFF, 0x7FFFFFFF],
+    [0, 2, 0, 2, 1, 0, 0x80000000],
+    [0, 3, 31, 3, 1, 0x7FFFFFFF, 0],
+];
+
+const REMAINDERS_TOWARDS_ZERO: [[u32; 7]; 8] = [
+    [0, 0, 0, 0, 0, 0, 0],
+    [0, 1, 1, 1, 1, 1, 0],
+    [0, 0, 31, 31, 31, 31, 0],
+    [0, 1, 0, 32, 32, 32, 0],
+    [0, 2, 1, 0, 33, 33, 0],
+    [0, 1, 31, 1, 0, 0x7FFFFFFF, 0],
+    [0, 0xFFFFFFFE, 0, 0xFFFFFFFE, 0xFFFFFFFF, 0, 0],
+    [
+        0, 0xFFFFFFFF, 0xFFFFFFFF, 0xFFFFFFFF, 0xFFFFFFFF, 0xFFFFFFFF, 0,
+    ],
+];
+
+const REMAINDERS_DOWNWARDS: [[u32; 7]; 8] = [
+    [0, 0, 0, 0, 0, 0, 0],
+    [0, 1, 1, 1, 1, 0x80000001, 0],
+    [0, 0, 31, 31, 31, 0x8000001F, 0],
+    [0, 1, 0, 32, 32, 0x80000020, 0],
+    [0, 2, 1, 0, 33, 0x80000021, 0],
+    [0, 1, 31, 1, 0, 0xFFFFFFFF, 0],
+    [0, 29, 0, 31, 0x7FFFFFFE, 0, 0],
+    [0, 30, 31, 32, 0x7FFFFFFE, 0xFFFFFFFF, 0],
+];
+
+#[test]
+fn divisions_at_the_edges(rt: HostRuntime) {
+    keeps(&rt, Part::Quotient, Kind::Unsigned, &QUOTIENTS_UNSIGNED);
+    keeps(
+        &rt,
+        Part::Quotient,
+        Kind::TowardsZero,
+        &QUOTIENTS_TOWARDS_ZERO,
+    );
+    keeps(&rt, Part::Quotient, Kind::Downwards, &QUOTIENTS_DOWNWARDS);
+    keeps(&rt, Part::Remainder, Kind::Unsigned, &REMAINDERS_UNSIGNED);
+    keeps(
+        &rt,
+        Part::Remainder,
+        Kind::TowardsZero,
+        &REMAINDERS_TOWARDS_ZERO,
+    );
+    keeps(&rt, Part::Remainder, Kind::Downwards, &REMAINDERS_DOWNWARDS);
+}
+
 #[test]
 fn no_quotient_by_zero(rt: HostRuntime) {
     for word in WORDS {
@@ -279,4 +386,22 @@ fn comparisons_at_the_edges(rt: HostRuntime) {
     compares(&rt, 2147483648, 4294967295, false, true, true);
     compares(&rt, 4294967295, 2147483648, false, false, false);
     compares(&rt, 4294967295, 0, false, false, true);
+}
+
+// The same words as signed: here too the lowest stands first.
+const WORDS_AS_SIGNED: [u32; 8] = [0x80000000, 0xFFFFFFFF, 0, 1, 31, 32, 33, 0x7FFFFFFF];
+
+#[test]
+fn words_are_in_order(rt: HostRuntime) {
+    for (i, a) in WORDS.iter().enumerate() {
+        for (j, b) in WORDS.iter().enumerate() {
+            assert_eq!(rt; passes(Test::Equal, *a, *b), i == j);
+            assert_eq!(rt; passes(Test::Less, *a, *b), i < j);
+        }
+    }
+    for (i, a) in WORDS_AS_SIGNED.iter().enumerate() {
+        for (j, b) in WORDS_AS_SIGNED.iter().enumerate() {
+            assert_eq!(rt; passes(Test::LessSigned, *a, *b), i < j);
+        }
+    }
 }
