@@ -15,14 +15,18 @@ fn a_new_axis_stands_still(rt: HostRuntime) {
 #[test]
 fn orders_at_below_and_above_the_limits(rt: HostRuntime) {
     let mut axis = AxisHost::new();
+    takes(&rt, &mut axis, 0, 2999);
     takes(&rt, &mut axis, 0, 3000);
     refuses(&rt, &mut axis, 0, 3001, 6);
     refuses(&rt, &mut axis, 0, u32::MAX, 6);
+    takes(&rt, &mut axis, 1, 2);
     takes(&rt, &mut axis, 1, 1);
     refuses(&rt, &mut axis, 1, 0, 6);
     shows(&rt, &axis, &[3000, 1, 0, 0]);
+    takes(&rt, &mut axis, 1, 499);
     takes(&rt, &mut axis, 1, 500);
     refuses(&rt, &mut axis, 1, 501, 6);
+    takes(&rt, &mut axis, 0, 1);
     takes(&rt, &mut axis, 0, 0);
     shows(&rt, &axis, &[0, 500, 0, 0]);
 }
@@ -89,6 +93,19 @@ fn the_gentlest_and_the_steepest_ramp(rt: HostRuntime) {
     takes(&rt, &mut axis, 0, 2999);
     axis.tick();
     shows(&rt, &axis, &[2999, 500, 2999, 13514]);
+    takes(&rt, &mut axis, 0, 2000);
+    axis.tick();
+    shows(&rt, &axis, &[2000, 500, 2499, 16013]);
+    axis.tick();
+    shows(&rt, &axis, &[2000, 500, 2000, 18013]);
+    takes(&rt, &mut axis, 1, 1);
+    takes(&rt, &mut axis, 0, 1998);
+    axis.tick();
+    shows(&rt, &axis, &[1998, 1, 1999, 20012]);
+    axis.tick();
+    shows(&rt, &axis, &[1998, 1, 1998, 22010]);
+    axis.tick();
+    shows(&rt, &axis, &[1998, 1, 1998, 24008]);
 }
 
 #[test]

@@ -37,10 +37,12 @@ fn no_rows(rt: HostRuntime) {
 fn one_row_at_below_and_above_its_limits(rt: HostRuntime) {
     let mut rows = [ORDER];
     let mut table = TableHost::new(&mut rows);
+    takes(&rt, &mut table, 0, 11);
     takes(&rt, &mut table, 0, 10);
     refuses(&rt, &mut table, 0, 9, 6);
     refuses(&rt, &mut table, 0, 0, 6);
     shows(&rt, &table, &[10]);
+    takes(&rt, &mut table, 0, 19);
     takes(&rt, &mut table, 0, 20);
     refuses(&rt, &mut table, 0, 21, 6);
     refuses(&rt, &mut table, 0, u32::MAX, 6);
