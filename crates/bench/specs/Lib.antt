@@ -1,2 +1,2 @@
-pub mod Examined
-pub mod Line
+pub mod Text
+pub mod Measured

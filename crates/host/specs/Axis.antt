@@ -26,6 +26,10 @@ ports_with ordered ramp speed position =
     ∷ record { value = position; low = 0; high = 2 ^ 32 - 1; flag = Sense; rest = None }
     ∷ []
 
+-- the ports of a new axis: ordered speed 0, ramp 50, speed 0, position 0
+abbrev pub new_axis : List Port
+new_axis = ports_with 0 50 0 0
+
 abbrev pub axis_ports : AxisHost → List Port
 axis_ports axis = ports_with axis.ordered axis.ramp axis.speed axis.position
 

@@ -1,5 +1,5 @@
 ghost use Rattle.std.specs.Prelude.{◌≡◌};
-ghost use Rattle.host.specs.Axis.{axis_ports, ports_with, towards, axis_rule, axis_lawful, OrderedTo120, port_number};
+ghost use Rattle.host.specs.Axis.{axis_ports, new_axis, towards, axis_rule, axis_lawful, OrderedTo120, port_number};
 ghost use Rattle.host.specs.Ports.{NamesPort};
 
 use crate::Host;
@@ -54,7 +54,7 @@ pub struct AxisHost {
 impl AxisHost {
     /// An axis that stands still.
     pub fn new() -> Self
-        ensures ports { axis_ports result ≡ ports_with 0 50 0 0 }
+        ensures ports { axis_ports result ≡ new_axis }
         ensures example { OrderedTo120 (axis_ports result) }
     {
         AxisHost {

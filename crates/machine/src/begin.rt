@@ -34,4 +34,13 @@ impl Machine {
             memory: Memory::holding(checked.image()),
         }
     }
+
+    /// Begins the run again, in the place of this one.
+    pub fn begin_again(&mut self, checked: &Checked)
+        ensures { (ports : List Port) → world_of self.new ports ≡ begun (bytes_of checked.now.opened) ports }
+    {
+        self.state = State::Running;
+        self.stack = Stack::first();
+        self.memory = Memory::holding(checked.image());
+    }
 }

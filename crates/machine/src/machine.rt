@@ -4,7 +4,7 @@ use faults::cause::Cause;
 use refusal::Place;
 
 /// Whether a machine runs.
-#[derive(Clone, Copy)]
+#[derive(Clone, Copy, PartialEq, Eq, Debug)]
 pub enum State {
     Running,
     Ended,
@@ -14,7 +14,7 @@ pub enum State {
 /// What runs on a module: its state, the nested routines and memory.
 #[derive(Drop)]
 pub struct Machine {
-    pub(crate) state: State,
+    pub state: State,
     pub(crate) stack: Stack,
     pub(crate) memory: Memory,
 }

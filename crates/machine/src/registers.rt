@@ -48,11 +48,11 @@ impl Frame {
         &self.registers()[first..first + len as usize]
     }
 
-    // Register k, if there is one.
-    pub(crate) fn register(&self, k: u8) -> Option<u32>
+    /// Register k, if there is one.
+    pub fn register(&self, k: usize) -> Option<u32>
         ensures { result ≡ register_of (level_of self.now) k }
     {
-        let register = self.registers().get(k as usize)?;
+        let register = self.registers().get(k)?;
         Some(register.value())
     }
 

@@ -25,7 +25,7 @@ impl<'a> Rig<'a> {
 
     // Makes one step, if it runs, and answers whether it did.
     pub(crate) fn advance<H: Host>(&mut self, host: &mut H) -> bool {
-        match self.machine.state() {
+        match self.machine.state {
             State::Running => {
                 self.machine.step(&self.checked, host);
                 true
@@ -35,10 +35,10 @@ impl<'a> Rig<'a> {
     }
 
     pub(crate) fn state(&self) -> State {
-        self.machine.state()
+        self.machine.state
     }
 
-    pub(crate) fn register(&self, k: u8) -> Option<u32> {
+    pub(crate) fn register(&self, k: usize) -> Option<u32> {
         self.machine.register(k)
     }
 

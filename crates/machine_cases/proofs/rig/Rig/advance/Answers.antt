@@ -9,7 +9,7 @@ pub step-requires : goal.step-requires
 step-requires g c =
     let rig = c.args.self.now in
     let bs = bytes_of rig.checked.opened in
-    let run = sym c.in-Running.ensures.state in
+    let run = c.in-Running.is in
     record { running = run; able = has_step bs (never_stuck bs (accepts_checked rig.checked)) rig.machine [] rig.sound run }
 
 pub invariant_of-self : goal.invariant_of-self
@@ -19,6 +19,6 @@ invariant_of-self g c =
     let never = never_stuck bs (accepts_checked rig.checked) in
     let ports = g.H.Host.ports c.args.host.now in
     let before = any_ports bs rig.machine [] ports rig.sound in
-    let run = sym c.in-Running.ensures.state in
+    let run = c.in-Running.is in
     let after = stays_sound bs never rig.machine ports before _ c.step.new.self _ run c.step.ensures.step in
     record { sound = any_ports bs c.step.new.self _ [] after }

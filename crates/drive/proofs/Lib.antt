@@ -1,0 +1,8 @@
+pub mod Stepping
+pub mod Spending
+pub mod Outcomes
+pub mod Restarts
+pub mod Places
+pub mod Entries
+pub mod Histories
+pub mod Laws

@@ -1,0 +1,5 @@
+pub mod Calls
+pub mod Log
+pub mod View
+pub mod Questions
+pub mod Law

@@ -1,0 +1,3 @@
+pub mod Modules
+pub mod Runs
+pub mod Worked
