@@ -1,0 +1,221 @@
+//! Puts the same modules, hosts and calls to the engine and to the reading, and compares every byte that they write.
+//!
+//! `compare [MODULES [SEED]]`. It stops at the first difference and prints what was put to both. At the end it prints how
+//! often each refusal, each cause of a trip and each state was met, and wants that each was.
+
+mod engine;
+mod generate;
+
+use compare::reading::exchange;
+use generate::{Case, Kind, Random};
+use std::env;
+use std::fmt::Write;
+use std::process::ExitCode;
+
+const MODULES: usize = 100_000;
+
+/// The refusal that belongs to pack, which is no part of the comparison.
+const OF_PACK: usize = 13;
+
+const STATES: [&str; 3] = ["running", "ended", "tripped"];
+
+/// How often everything was met.
+#[derive(Default)]
+struct Tally {
+    kinds: [usize; 5],
+    accepted: usize,
+    over_axis: usize,
+    calls: usize,
+    steps: u64,
+    /// By number; 0 stands for none.
+    refusals: [usize; 19],
+    causes: [usize; 7],
+    states: [usize; 3],
+    faults: usize,
+    marked: usize,
+    fullest: usize,
+}
+
+/// What was written, read from its beginning.
+struct Written<'a>(&'a [u8]);
+
+impl Written<'_> {
+    fn number(&mut self, width: usize) -> u64 {
+        let (number, rest) = self.0.split_at(width);
+        self.0 = rest;
+        number
+            .iter()
+            .rev()
+            .fold(0, |sum, byte| sum << 8 | u64::from(*byte))
+    }
+
+    fn byte(&mut self) -> usize {
+        self.number(1) as usize
+    }
+}
+
+impl Tally {
+    fn refusal(&mut self, written: &mut Written) {
+        self.refusals[written.byte()] += 1;
+        written.number(5);
+    }
+
+    fn state(&mut self, written: &mut Written) {
+        let state = written.byte();
+        self.states[state] += 1;
+        if state == 2 {
+            self.causes[written.byte()] += 1;
+            written.number(5);
+            written.number(8);
+        }
+    }
+
+    fn check(&mut self, bytes: &[u8]) {
+        let mut written = Written(bytes);
+        if written.byte() == 1 {
+            self.refusal(&mut written);
+        }
+    }
+
+    fn run(&mut self, bytes: &[u8], calls: usize, table: bool) {
+        let mut written = Written(bytes);
+        if written.byte() == 1 {
+            return self.refusal(&mut written);
+        }
+        self.accepted += 1;
+        self.over_axis += usize::from(!table);
+        self.calls += calls;
+        for _ in 0..calls {
+            if written.byte() == 1 {
+                self.refusal(&mut written);
+            } else {
+                self.steps += written.number(4);
+                self.state(&mut written);
+            }
+        }
+        // The state is that of the last accepted call, and was counted there.
+        if written.byte() == 2 {
+            written.number(6);
+            written.number(8);
+        }
+        if written.byte() == 1 {
+            self.refusal(&mut written);
+        } else {
+            written.number(4);
+        }
+        for _ in 0..written.byte() {
+            written.number(4);
+        }
+        written.0 = &written.0[4_096..];
+        let faults = written.byte();
+        self.faults += faults;
+        self.fullest += usize::from(faults == 16);
+        for _ in 0..faults {
+            written.number(6);
+            written.number(8);
+            self.marked += written.byte();
+        }
+    }
+
+    /// Prints it all, and says whether everything was met.
+    fn report(&self) -> bool {
+        let modules: usize = self.kinds.iter().sum();
+        println!("{modules} modules and call lists, no difference");
+        for (kind, count) in Kind::ALL.iter().zip(self.kinds) {
+            println!("  {count} {kind:?}");
+        }
+        println!(
+            "{} accepted, {} of them over an axis; {} calls, {} steps",
+            self.accepted, self.over_axis, self.calls, self.steps
+        );
+        println!(
+            "{} faults, {} of them marked; {} lists with sixteen",
+            self.faults, self.marked, self.fullest
+        );
+        let mut all = true;
+        let mut print = |what: &str, count: usize| {
+            println!("{what}: {count}");
+            all &= count > 0;
+        };
+        for (number, count) in self
+            .refusals
+            .iter()
+            .enumerate()
+            .skip(1)
+            .filter(|(number, _)| *number != OF_PACK)
+        {
+            print(&format!("refusal {number}"), *count);
+        }
+        for (cause, count) in self.causes.iter().enumerate().skip(1) {
+            print(&format!("cause {cause}"), *count);
+        }
+        for (state, count) in STATES.iter().zip(self.states) {
+            print(state, count);
+        }
+        println!("refusal {OF_PACK} is pack's, which is not compared");
+        all
+    }
+}
+
+fn hexadecimal(bytes: &[u8]) -> String {
+    bytes.iter().fold(String::new(), |mut text, byte| {
+        let _ = write!(text, "{byte:02X}");
+        text
+    })
+}
+
+/// Prints a difference and what was put to both.
+fn differ(what: &str, number: usize, case: &Case, engine: &[u8], reading: &[u8]) -> ExitCode {
+    let at = engine
+        .iter()
+        .zip(reading)
+        .take_while(|(a, b)| a == b)
+        .count();
+    println!(
+        "{what} {number} ({:?}) differs at byte {at} of {} and {}",
+        case.kind,
+        engine.len(),
+        reading.len()
+    );
+    println!("module {}", hexadecimal(&case.module));
+    println!("rows {}", case.rows);
+    println!("host {}", hexadecimal(&case.host));
+    println!("calls {}", hexadecimal(&case.calls));
+    println!("engine {}", hexadecimal(engine));
+    println!("reading {}", hexadecimal(reading));
+    ExitCode::FAILURE
+}
+
+fn main() -> ExitCode {
+    let mut arguments = env::args().skip(1).map(|word| word.parse::<usize>());
+    let (Ok(modules), Ok(seed)) = (
+        arguments.next().unwrap_or(Ok(MODULES)),
+        arguments.next().unwrap_or(Ok(1)),
+    ) else {
+        println!("compare [MODULES [SEED]]");
+        return ExitCode::FAILURE;
+    };
+    let mut random = Random::new(seed as u64);
+    let mut tally = Tally::default();
+    for number in 0..modules {
+        let case = Case::draw(&mut random);
+        let engine = engine::check(&case.module, case.rows);
+        let reading = exchange::check(&case.module, case.rows);
+        if engine != reading {
+            return differ("check", number, &case, &engine, &reading);
+        }
+        tally.check(&engine);
+        let engine = engine::run(&case.module, &case.host, &case.calls);
+        let reading = exchange::run(&case.module, &case.host, &case.calls);
+        if engine != reading {
+            return differ("run", number, &case, &engine, &reading);
+        }
+        tally.run(&engine, case.calls.len() / 5, !case.host.is_empty());
+        tally.kinds[case.kind as usize] += 1;
+    }
+    if tally.report() {
+        ExitCode::SUCCESS
+    } else {
+        ExitCode::FAILURE
+    }
+}

@@ -1,0 +1,208 @@
+//! What the engine and the reading exchange (EXCHANGE.md). All numbers have their lowest byte
+//! first.
+
+use super::drive::{Answer, Call, Drive};
+use super::host::{Flag, Host, Port};
+use super::machine::{State, Trip};
+use super::module::{open, Opened, Shape, MOST_INSTRUCTIONS};
+use super::refusal::{Place, Refusal};
+
+/// The length of a row of a table, and of a call.
+const ROW: usize = 18;
+const CALL: usize = 5;
+
+/// The answer of open and check for the bytes of a module, over a sheet of so many rows.
+pub fn check(module: &[u8], rows: usize) -> Vec<u8> {
+    let mut sheet = vec![Shape::default(); rows];
+    let mut out = Vec::new();
+    match checked(module, &mut sheet) {
+        Err(refusal) => {
+            out.push(1);
+            put_refusal(&mut out, refusal);
+        }
+        Ok(opened) => {
+            out.push(0);
+            for count in [
+                opened.routines(),
+                opened.instructions(),
+                opened.image_length(),
+            ] {
+                put32(&mut out, count as u32);
+            }
+            for shape in &sheet[..opened.instructions()] {
+                out.push(shape.depth as u8);
+                put32(&mut out, shape.mask);
+            }
+        }
+    }
+    out
+}
+
+fn checked<'a>(module: &'a [u8], sheet: &mut [Shape]) -> Result<Opened<'a>, Refusal> {
+    let opened = open(module)?;
+    opened.check(sheet)?;
+    Ok(opened)
+}
+
+/// What comes of these calls to a drive of the module, over the host, and how both are then.
+pub fn run(module: &[u8], host: &[u8], calls: &[u8]) -> Vec<u8> {
+    let mut sheet = vec![Shape::default(); MOST_INSTRUCTIONS];
+    let mut out = Vec::new();
+    match open(module).and_then(|opened| opened.into_checked(&mut sheet)) {
+        Err(refusal) => {
+            out.push(1);
+            put_refusal(&mut out, refusal);
+        }
+        Ok(checked) => {
+            out.push(0);
+            let mut rows = table_rows(host);
+            let mut host = match &rows {
+                Some(rows) => Host::table(rows),
+                None => Host::axis(),
+            };
+            let mut drive = Drive::start(checked);
+            for call in calls.chunks_exact(CALL) {
+                put_answer(&mut out, drive.call(&mut host, call_of(call)));
+            }
+            put_drive(&mut out, &drive);
+            put16(&mut out, host.ports().len() as u16);
+            for port in host.ports() {
+                put32(&mut out, port.value);
+            }
+            if let Some(rows) = &mut rows {
+                let ports = host.ports();
+                rows[..ports.len()].copy_from_slice(ports);
+                for row in rows {
+                    put_row(&mut out, row);
+                }
+            }
+        }
+    }
+    out
+}
+
+/// The rows of a table, or none for an axis. Any first byte makes a table.
+fn table_rows(host: &[u8]) -> Option<Vec<Port>> {
+    let (_, rows) = host.split_first()?;
+    Some(rows.chunks_exact(ROW).map(row_of).collect())
+}
+
+fn number32(bytes: &[u8], at: usize) -> u32 {
+    u32::from_le_bytes([bytes[at], bytes[at + 1], bytes[at + 2], bytes[at + 3]])
+}
+
+/// Any flag but 0 is taken for sense, and any byte but 0 for having a rest value.
+fn row_of(bytes: &[u8]) -> Port {
+    Port {
+        value: number32(bytes, 0),
+        low: number32(bytes, 4),
+        high: number32(bytes, 8),
+        flag: match bytes[12] {
+            0 => Flag::Order,
+            _ => Flag::Sense,
+        },
+        rest: match bytes[13] {
+            0 => None,
+            _ => Some(number32(bytes, 14)),
+        },
+    }
+}
+
+fn call_of(bytes: &[u8]) -> Call {
+    match bytes[0] {
+        0 => Call::Grant {
+            fuel: number32(bytes, 1),
+        },
+        1 => Call::Restart,
+        _ => Call::PowerCycle,
+    }
+}
+
+fn put16(out: &mut Vec<u8>, number: u16) {
+    out.extend(number.to_le_bytes());
+}
+
+fn put32(out: &mut Vec<u8>, number: u32) {
+    out.extend(number.to_le_bytes());
+}
+
+fn put_place(out: &mut Vec<u8>, place: Place) {
+    put16(out, place.routine);
+    put16(out, place.instruction);
+}
+
+fn put_refusal(out: &mut Vec<u8>, refusal: Refusal) {
+    out.push(refusal.number());
+    out.push(refusal.layer().number());
+    put_place(out, refusal.place());
+}
+
+fn put_trip(out: &mut Vec<u8>, trip: Trip) {
+    out.push(trip.cause.number());
+    out.push(trip.cause.layer().number());
+    put_place(out, trip.place);
+    out.extend(trip.cause.detail().to_le_bytes());
+}
+
+fn put_state(out: &mut Vec<u8>, state: State) {
+    match state {
+        State::Running => out.push(0),
+        State::Ended => out.push(1),
+        State::Tripped(trip) => {
+            out.push(2);
+            put_trip(out, trip);
+        }
+    }
+}
+
+fn put_answer(out: &mut Vec<u8>, answer: Result<Answer, Refusal>) {
+    match answer {
+        Ok(answer) => {
+            out.push(0);
+            put32(out, answer.steps);
+            put_state(out, answer.state);
+        }
+        Err(refusal) => {
+            out.push(1);
+            put_refusal(out, refusal);
+        }
+    }
+}
+
+fn put_drive(out: &mut Vec<u8>, drive: &Drive) {
+    put_state(out, drive.state());
+    match drive.place() {
+        Ok(place) => {
+            out.push(0);
+            put_place(out, place);
+        }
+        Err(refusal) => {
+            out.push(1);
+            put_refusal(out, refusal);
+        }
+    }
+    let depth = drive.depth();
+    out.push(depth as u8);
+    for k in 0..depth {
+        put32(out, drive.register(k).expect("it is below the depth"));
+    }
+    out.extend(drive.machine().memory);
+    out.push(drive.faults() as u8);
+    for i in 0..drive.faults() {
+        let fault = drive.fault(i).expect("it is in the list");
+        put_trip(out, fault.trip);
+        out.push(fault.marked.into());
+    }
+}
+
+fn put_row(out: &mut Vec<u8>, row: &Port) {
+    put32(out, row.value);
+    put32(out, row.low);
+    put32(out, row.high);
+    out.push(match row.flag {
+        Flag::Order => 0,
+        Flag::Sense => 1,
+    });
+    out.push(row.rest.is_some().into());
+    put32(out, row.rest.unwrap_or(0));
+}

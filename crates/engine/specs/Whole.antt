@@ -1,0 +1,132 @@
+-- The whole of what is written, and what becomes of the place that it is written to.
+use Rattle.std.specs.Prelude.{ℕ, ◌/◌, ◌%◌, List, [], ◌∷◌, ◌++◌, map, length, take, drop, replicate, Ok, Err, Result, min, cond, nat_lt}
+use Rattle.std.specs.List.{flat_map}
+use Rattle.std.specs.Option.{option_map, unwrap_or}
+use Rattle.refusal.specs.Values.{Values}
+use Rattle.host.specs.declared.port.Port.{Port}
+use Rattle.host.specs.Axis.{axis_rule, ports_with}
+use Rattle.host.specs.Ports.{most_ports}
+use Rattle.host.specs.Table.{table_rule}
+use Rattle.module.specs.declared.shape.ShapeRow.{ShapeRow}
+use Rattle.module.specs.declared.opened.Counts.{Counts}
+use Rattle.module.specs.Layout.{counts}
+use Rattle.module.specs.Verdict.{checking, blank, sheet_after}
+use Rattle.faults.specs.Faults.{FaultValues}
+use Rattle.machine.specs.Level.{Level, value_of}
+use Rattle.machine.specs.Shown.{running_in}
+use Rattle.machine.specs.World.{Phase, World}
+use Rattle.drive.specs.declared.call.Call.{Call}
+use Rattle.drive.specs.Calls.{Rule}
+use Rattle.drive.specs.Log.{Log, new_log, log_after, answers, listed}
+use Rattle.drive.specs.Questions.{asked, place_in, depth_in}
+use Rattle.engine.specs.declared.field.Field.{Field}
+use Rattle.engine.specs.declared.field.Field.TheVariants.{One, Two, Four}
+use Rattle.engine.specs.Given.{calls_in, rows_in}
+use Rattle.engine.specs.Fields.{fields_bytes, refused_fields, state_fields, answer_fields, place_fields, fault_fields, row_fields, room}
+
+-- the values of the running routine's registers
+abbrev pub registers_in : List Level → List ℕ
+registers_in levels = unwrap_or (option_map (λ l. map value_of l.registers) (running_in levels)) []
+
+-- the lowest byte of the depth, which is 32 at most, and the registers of the running routine
+abbrev pub register_fields : List Level → List Field
+register_fields levels = One (depth_in levels % 256) ∷ map Four (registers_in levels)
+
+-- the lowest byte of how many faults there are, sixteen at most, and the faults
+abbrev pub faults_fields : List FaultValues → List Field
+faults_fields faults = One (length faults % 256) ∷ flat_map fault_fields faults
+
+abbrev pub value_field : Port → Field
+value_field p = Four p.value
+
+-- how many ports there are, and their values
+abbrev pub port_fields : List Port → List Field
+port_fields ports = Two (length ports % 65536) ∷ map value_field ports
+
+-- memory has this size
+abbrev pub memory_size : ℕ
+memory_size = 4096
+
+-- state, place, registers and memory of a world, and then faults
+abbrev pub world_fields : World → List FaultValues → List Field
+world_fields w faults =
+    state_fields w.phase
+    ++ (place_fields (asked (place_in w.levels))
+    ++ (register_fields w.levels
+    ++ (map One (take memory_size w.memory)
+    ++ faults_fields faults)))
+
+-- answers, and then the world, the faults and the ports of a log
+abbrev pub log_fields : List (Result (ℕ × Phase) Values) → Log → List Field
+log_fields answers l = flat_map answer_fields answers ++ (world_fields l.world (listed l.entries) ++ port_fields l.world.ports)
+
+-- of calls to a new drive of the module bs, over a host with this tick rule and these first ports
+abbrev pub run_fields : List ℕ → Rule → List Port → List Call → List Field
+run_fields bs rule first calls = log_fields (answers bs rule calls (new_log bs first)) (log_after bs rule calls (new_log bs first))
+
+abbrev pub unless_refused : Result (Unit {0}) Values → List Field → List Field
+unless_refused (Ok u) fields = One 0 ∷ fields
+unless_refused (Err e) fields = refused_fields e
+
+-- the lowest byte of the depth, which is 32 at most, and the mask
+abbrev pub shape_fields : ShapeRow → List Field
+shape_fields row = One (row.depth % 256) ∷ Four row.mask ∷ []
+
+-- the counts of a module, and the rows of a sheet for its instructions
+abbrev pub shapes_fields : Counts → List ShapeRow → List Field
+shapes_fields counts sheet =
+    Four (counts.routines % 4294967296)
+    ∷ Four (counts.total % 4294967296)
+    ∷ Four (counts.image % 4294967296)
+    ∷ flat_map shape_fields (take counts.total sheet)
+
+-- the most rows of a sheet
+abbrev pub most_rows : ℕ
+most_rows = 4096
+
+-- what a check of bs writes, over this sheet
+abbrev pub sheet_fields : List ℕ → List ShapeRow → List Field
+sheet_fields bs sheet = unless_refused (checking bs (length sheet)) (shapes_fields (counts bs) (sheet_after bs sheet))
+
+-- and over the first so many rows of a new sheet
+abbrev pub checked_fields : List ℕ → ℕ → List Field
+checked_fields bs rows = sheet_fields bs (take (min rows most_rows) (replicate most_rows blank))
+
+-- the calls that are given, at most so many
+abbrev pub most_calls : ℕ
+most_calls = 256
+
+abbrev pub given_calls : List ℕ → List Call
+given_calls bs = calls_in bs (min (length bs / 5) most_calls)
+
+-- the rows of a table that are given, at most so many
+abbrev pub most_given : ℕ
+most_given = 512
+
+abbrev pub given_rows : List ℕ → List Port
+given_rows bs = rows_in bs (min (length bs / 18) most_given)
+
+-- over an axis
+abbrev pub axis_fields : List ℕ → List Call → List Field
+axis_fields bs calls = unless_refused (checking bs most_rows) (run_fields bs axis_rule (ports_with 0 50 0 0) calls)
+
+-- over a table, of which the rows past the ports stay
+abbrev pub table_fields : List ℕ → List Port → List Call → List Field
+table_fields bs rows calls =
+    unless_refused (checking bs most_rows)
+    (run_fields bs table_rule (take most_ports rows) calls
+    ++ flat_map row_fields ((log_after bs table_rule calls (new_log bs (take most_ports rows))).world.ports ++ drop most_ports rows))
+
+-- no byte stands for a new axis, and otherwise the bytes after the first for a table
+abbrev pub host_fields : List ℕ → List ℕ → List Call → List Field
+host_fields bs host calls = cond (nat_lt 0 (length host)) (table_fields bs (given_rows (drop 1 host)) calls) (axis_fields bs calls)
+
+abbrev pub ran_fields : List ℕ → List ℕ → List ℕ → List Field
+ran_fields bs host calls = host_fields bs host (given_calls calls)
+
+-- as much of what is to be written as fits, and the output after it
+abbrev pub fitting : List ℕ → List Field → List ℕ
+fitting out fields = take (length out) (take room (fields_bytes fields))
+
+abbrev pub laid : List ℕ → List Field → List ℕ
+laid out fields = fitting out fields ++ drop (length (fitting out fields)) out

@@ -1,0 +1,124 @@
+// What comes of a module: of its check, and of calls to a drive of it.
+ghost use Rattle.std.specs.Prelude.{◌≡◌, ◌<◌, length, map, drop, IfOk};
+ghost use Rattle.module.specs.Told.{bytes_of, verdict_of};
+ghost use Rattle.module.specs.Layout.{counts};
+ghost use Rattle.module.specs.Verdict.{checking, sheet_after};
+ghost use Rattle.drive.specs.View.{call_of};
+ghost use Rattle.engine.specs.Fields.{fields_bytes, Added};
+ghost use Rattle.engine.specs.Whole.{shapes_fields, sheet_fields, axis_fields, table_fields, host_fields};
+
+use crate::drives::add_run;
+use crate::field::{Field, Text, add, add_all, first};
+use crate::given::{ROW, fill_rows};
+use crate::text::{add_refusal, add_rows, add_shapes};
+use drive::call::Turn;
+use host::axis::AxisHost;
+use host::port::{Flag, Port};
+use host::table::TableHost;
+use module::checked::Checked;
+use module::limits;
+use module::open::open;
+use module::shape::ShapeRow;
+use refusal::Refusal;
+
+// The most rows of a table that are read.
+const ROWS: usize = 512;
+
+const BLANK: Port = Port {
+    value: 0,
+    low: 0,
+    high: 0,
+    flag: Flag::Order,
+    rest: None,
+};
+
+// The checked module, if it is accepted.
+fn examine<'a>(bytes: &'a [u8], sheet: &mut [ShapeRow]) -> Result<Checked<'a>, Refusal>
+    ensures verdict { verdict_of result ≡ checking bytes.now (length sheet.old) }
+    ensures sheet { sheet.new ≡ sheet_after bytes.now sheet.old }
+    ensures bytes { IfOk result (λ m. bytes_of m.opened ≡ bytes.now) }
+{
+    open(bytes)?.into_checked(sheet)
+}
+
+// The counts, and the rows of its instructions.
+fn add_module(text: &mut Text, checked: &Checked<'_>, sheet: &[ShapeRow])
+    ensures { Added text.old.items (fields_bytes (shapes_fields (counts (bytes_of checked.now.opened)) sheet.now)) text.new.items }
+{
+    let counts = checked.counts();
+    add_all(
+        text,
+        &[
+            Field::Four((counts.routines % 4_294_967_296) as u32),
+            Field::Four((counts.total % 4_294_967_296) as u32),
+            Field::Four((counts.image % 4_294_967_296) as u32),
+        ],
+    );
+    add_shapes(text, first(sheet, counts.total));
+}
+
+// Checks a module over a sheet.
+pub fn add_check(text: &mut Text, bytes: &[u8], sheet: &mut [ShapeRow])
+    ensures { Added text.old.items (fields_bytes (sheet_fields bytes.now sheet.old)) text.new.items }
+{
+    match examine(bytes, sheet) {
+        Ok(checked) => {
+            add(text, Field::One(0));
+            add_module(text, &checked, sheet);
+        }
+        Err(refusal) => add_refusal(text, refusal),
+    }
+}
+
+// Makes calls over a new axis.
+fn add_axis_run(text: &mut Text, bytes: &[u8], turns: &mut [Turn])
+    ensures { Added text.old.items (fields_bytes (axis_fields bytes.now (map call_of turns.old))) text.new.items }
+{
+    let mut sheet = [ShapeRow::BLANK; limits::INSTRUCTIONS];
+    match examine(bytes, &mut sheet) {
+        Ok(checked) => {
+            add(text, Field::One(0));
+            add_run(text, checked, &mut AxisHost::new(), turns);
+        }
+        Err(refusal) => add_refusal(text, refusal),
+    }
+}
+
+// Makes calls over a table of these rows, and adds the rows afterwards.
+fn add_table_run(text: &mut Text, bytes: &[u8], rows: &mut [Port], turns: &mut [Turn])
+    ensures { Added text.old.items (fields_bytes (table_fields bytes.now rows.old (map call_of turns.old))) text.new.items }
+{
+    let mut sheet = [ShapeRow::BLANK; limits::INSTRUCTIONS];
+    match examine(bytes, &mut sheet) {
+        Ok(checked) => {
+            add(text, Field::One(0));
+            add_run(text, checked, &mut TableHost::new(rows), turns);
+            add_rows(text, rows);
+        }
+        Err(refusal) => add_refusal(text, refusal),
+    }
+}
+
+// The bytes after the first.
+fn rest(host: &[u8]) -> &[u8]
+    requires { 0 < length host.now }
+    ensures { result.now ≡ drop 1 host.now }
+{
+    &host[1..]
+}
+
+// Makes calls over the host that is given.
+pub fn add_host_run(text: &mut Text, bytes: &[u8], host: &[u8], turns: &mut [Turn])
+    ensures { Added text.old.items (fields_bytes (host_fields bytes.now host.now (map call_of turns.old))) text.new.items }
+{
+    if host.len() == 0 {
+        add_axis_run(text, bytes, turns);
+        return;
+    }
+    let given = rest(host);
+    let mut rows = [BLANK; ROWS];
+    let count = (given.len() / ROW).min(ROWS);
+    let rows = &mut rows[..count];
+    fill_rows(given, rows);
+    add_table_run(text, bytes, rows, turns);
+}
