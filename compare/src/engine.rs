@@ -1,7 +1,7 @@
 //! The engine, which is linked as a static library: `crates/engine/src/lib.rt` has the functions and their contracts.
 
 /// The engine writes no more than this, and leaves out what would come after it.
-const ROOM: usize = 32_768;
+const ROOM: usize = 40_960;
 
 // A slice crosses as a pointer and then a length.
 unsafe extern "C" {
@@ -9,6 +9,25 @@ unsafe extern "C" {
         module: *const u8,
         module_len: usize,
         rows: usize,
+        out: *mut u8,
+        out_len: usize,
+    ) -> usize;
+    fn bench_unpack(
+        module: *const u8,
+        module_len: usize,
+        entries: usize,
+        rows: usize,
+        out: *mut u8,
+        out_len: usize,
+    ) -> usize;
+    fn bench_pack(
+        entries: *const u8,
+        entries_len: usize,
+        rows: *const u8,
+        rows_len: usize,
+        image: *const u8,
+        image_len: usize,
+        size: usize,
         out: *mut u8,
         out_len: usize,
     ) -> usize;
@@ -63,6 +82,43 @@ pub fn run(module: &[u8], host: &[u8], calls: &[u8]) -> Vec<u8> {
             host.len(),
             calls.as_ptr(),
             calls.len(),
+            out.as_mut_ptr(),
+            out.len(),
+        )
+    };
+    written(out, len)
+}
+
+/// What unpacking a module into so many entries and rows writes.
+pub fn unpack(module: &[u8], entries: usize, rows: usize) -> Vec<u8> {
+    let mut out = vec![0; ROOM];
+    // SAFETY: as in `check`.
+    let len = unsafe {
+        bench_unpack(
+            module.as_ptr(),
+            module.len(),
+            entries,
+            rows,
+            out.as_mut_ptr(),
+            out.len(),
+        )
+    };
+    written(out, len)
+}
+
+/// What packing entries, instructions and an image into an output of so many bytes writes.
+pub fn pack(entries: &[u8], rows: &[u8], image: &[u8], size: usize) -> Vec<u8> {
+    let mut out = vec![0; ROOM];
+    // SAFETY: as in `check`.
+    let len = unsafe {
+        bench_pack(
+            entries.as_ptr(),
+            entries.len(),
+            rows.as_ptr(),
+            rows.len(),
+            image.as_ptr(),
+            image.len(),
+            size,
             out.as_mut_ptr(),
             out.len(),
         )

@@ -1,4 +1,4 @@
-//! Modules, hosts and calls at random, the same for the same seed.
+//! Modules, hosts, calls and contents at random, the same for the same seed.
 
 /// A generator of random numbers (xorshift, with a multiplication).
 pub struct Random(u64);
@@ -75,6 +75,16 @@ impl Kind {
     ];
 }
 
+/// What a module is put together from.
+#[derive(Default)]
+pub struct Contents {
+    /// 4 bytes each.
+    pub entries: Vec<u8>,
+    /// 8 bytes each.
+    pub rows: Vec<u8>,
+    pub image: Vec<u8>,
+}
+
 /// What is put to both implementations.
 pub struct Case {
     pub kind: Kind,
@@ -83,6 +93,11 @@ pub struct Case {
     pub rows: usize,
     pub host: Vec<u8>,
     pub calls: Vec<u8>,
+    /// How many entries and rows are lent to unpack.
+    pub lent: (usize, usize),
+    pub contents: Contents,
+    /// The length of the output of pack.
+    pub size: usize,
 }
 
 /// An instruction.
@@ -579,11 +594,16 @@ fn damage(random: &mut Random, module: &mut [u8]) {
         // A field of an instruction: op, a, b, c, or the lowest byte of n.
         _ => rows + 8 * random.below(count) + random.below(5),
     };
-    module[at] = match random.below(5) {
+    alter(random, &mut module[at]);
+}
+
+/// Another value of a byte.
+fn alter(random: &mut Random, byte: &mut u8) {
+    *byte = match random.below(5) {
         0 => random.byte(),
-        1 => module[at].wrapping_add(1),
-        2 => module[at].wrapping_sub(1),
-        3 => module[at] ^ (1 << random.below(8)),
+        1 => byte.wrapping_add(1),
+        2 => byte.wrapping_sub(1),
+        3 => *byte ^ (1 << random.below(8)),
         _ => random.below(33) as u8,
     };
 }
@@ -677,6 +697,143 @@ fn total(module: &[u8]) -> usize {
         .sum()
 }
 
+/// A number near another: often that one, or one less or more.
+fn near(random: &mut Random, number: usize, most: usize) -> usize {
+    let near = match random.below(10) {
+        0..=3 => number,
+        4 => number.saturating_sub(1),
+        5..=6 => number + 1,
+        7 => random.below(number + 2),
+        8 => number + random.below(20),
+        _ => random.pick(&[0, 1, most]),
+    };
+    near.min(most)
+}
+
+impl Contents {
+    /// The contents of a module.
+    fn of(module: &[u8]) -> Contents {
+        let routines = usize::from(module[0]);
+        let (header, rest) = module.split_at(4 + 8 * routines);
+        let (rows, image) = rest.split_at(8 * total(module));
+        Contents {
+            entries: header[4..]
+                .chunks(8)
+                .flat_map(|entry| entry[4..].to_vec())
+                .collect(),
+            rows: rows.to_vec(),
+            image: image.to_vec(),
+        }
+    }
+
+    /// So many routines that take and give nothing, of one instruction each.
+    fn flat(routines: usize) -> Contents {
+        Contents {
+            entries: [1, 0, 0, 0].repeat(routines),
+            rows: [RET, 0, 0, 0, 0, 0, 0, 0].repeat(routines),
+            image: Vec::new(),
+        }
+    }
+
+    /// Bytes of no intent, with incomplete entries and instructions at the end.
+    fn noise(random: &mut Random) -> Contents {
+        let mut bytes = |most: usize| -> Vec<u8> {
+            let len = random.below(most);
+            (0..len).map(|_| random.byte()).collect()
+        };
+        Contents {
+            entries: bytes(20),
+            rows: bytes(60),
+            image: bytes(10),
+        }
+    }
+
+    /// What pack counts in the entries.
+    fn total(&self) -> usize {
+        let counts = self.entries.chunks_exact(4);
+        counts
+            .map(|entry| usize::from(u16::from_le_bytes([entry[0], entry[1]])))
+            .sum()
+    }
+
+    /// The length of the module, if these are the contents of one.
+    fn length(&self) -> usize {
+        4 + self.entries.len() / 4 * 8 + 8 * self.total() + self.image.len()
+    }
+
+    /// An instruction is counted to the next routine, or to the one before.
+    fn shift_count(&mut self, random: &mut Random) {
+        let routines = self.entries.len() / 4;
+        if routines > 1 {
+            let r = random.below(routines - 1);
+            let step = random.pick(&[1, u8::MAX]);
+            for (r, step) in [(r, step), (r + 1, step.wrapping_neg())] {
+                self.entries[4 * r] = self.entries[4 * r].wrapping_add(step);
+            }
+        }
+    }
+
+    /// Another value of one field, or more or fewer of something.
+    fn damage(&mut self, random: &mut Random) {
+        match random.below(13) {
+            0..=2 if self.entries.len() >= 4 => {
+                let at = 4 * random.below(self.entries.len() / 4);
+                let field = random.below(4);
+                match random.below(4) {
+                    0 => self.entries[at + 2] = random.pick(&[32, 33]),
+                    1 => self.entries[at + 3] = random.pick(&[8, 9]),
+                    _ => alter(random, &mut self.entries[at + field]),
+                }
+            }
+            3..=5 if self.rows.len() >= 8 => {
+                // A field of an instruction: op, a, b, c, or the lowest byte of n.
+                let at = 8 * random.below(self.rows.len() / 8) + random.below(5);
+                alter(random, &mut self.rows[at]);
+            }
+            6 => {
+                let last = self.entries.len().saturating_sub(4);
+                self.entries.truncate(last);
+            }
+            7 => self.entries.extend([
+                random.below(3) as u8,
+                0,
+                random.below(34) as u8,
+                random.below(10) as u8,
+            ]),
+            8 => {
+                let last = self.rows.len().saturating_sub(8);
+                self.rows.truncate(last);
+            }
+            9 => self.rows.extend([TICK, 0, 0, 0, 0, 0, 0, 0]),
+            10 => self.image = vec![random.byte(); random.pick(&[0, 1, 4_095, 4_096, 4_097])],
+            // The bytes of an incomplete entry or instruction are ignored.
+            11 => {
+                self.entries.extend(vec![1; random.below(4)]);
+                self.rows.extend(vec![1; random.below(8)]);
+            }
+            _ => self.shift_count(random),
+        }
+    }
+
+    /// Contents of this module, of a module that is as large as can be or a little larger, or of none.
+    fn draw(random: &mut Random, module: Option<&[u8]>) -> Contents {
+        let mut contents = match (random.below(400), module) {
+            (0, _) => {
+                let instructions = random.pick(&[4_095, 4_096, 4_097]);
+                Contents::of(&long(random, instructions))
+            }
+            (1..=3, _) => Contents::flat(random.pick(&[0, 63, 64, 65])),
+            (_, Some(module)) => Contents::of(module),
+            (_, None) => Contents::noise(random),
+        };
+        let damages = random.pick(&[0, 0, 1, 1, 2]);
+        for _ in 0..damages {
+            contents.damage(random);
+        }
+        contents
+    }
+}
+
 impl Case {
     pub fn draw(random: &mut Random) -> Case {
         let (host, ports) = host(random);
@@ -692,6 +849,7 @@ impl Case {
         } else {
             well_formed(random, ports)
         };
+        let contents = Contents::draw(random, (kind != Kind::Random).then_some(&module));
         match kind {
             Kind::WellFormed | Kind::Random => {}
             Kind::Damaged if random.below(200) == 0 => module = long(random, 4_097),
@@ -720,6 +878,12 @@ impl Case {
         Case {
             kind,
             rows: rows.min(4_096),
+            lent: (
+                near(random, module.first().map_or(0, |n| usize::from(*n)), 64),
+                near(random, total, 4_096),
+            ),
+            size: near(random, contents.length(), 40_000),
+            contents,
             host,
             calls: calls(random),
             module,

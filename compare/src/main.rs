@@ -1,21 +1,39 @@
-//! Puts the same modules, hosts and calls to the engine and to the reading, and compares every byte that they write.
+//! Puts the same modules, hosts, calls and contents to the engine and to the reading, and compares every byte that they write.
 //!
 //! `compare [MODULES [SEED]]`. It stops at the first difference and prints what was put to both. At the end it prints how
-//! often each refusal, each cause of a trip and each state was met, and wants that each was.
+//! often each refusal of each call, each cause of a trip and each state was met, and wants that each was.
 
 mod engine;
 mod generate;
 
 use compare::reading::exchange;
-use generate::{Case, Kind, Random};
+use generate::{Case, Contents, Kind, Random};
 use std::env;
 use std::fmt::Write;
 use std::process::ExitCode;
 
 const MODULES: usize = 100_000;
 
-/// The refusal that belongs to pack, which is no part of the comparison.
-const OF_PACK: usize = 13;
+/// What gives refusals.
+#[derive(Clone, Copy)]
+enum Giver {
+    Check,
+    Unpack,
+    Pack,
+    Drive,
+}
+
+/// Each giver and its refusals; 1 to 4 are those of open, which check begins with.
+const GIVERS: [(Giver, &str, &[usize]); 4] = [
+    (
+        Giver::Check,
+        "check",
+        &[1, 2, 3, 4, 5, 6, 7, 8, 9, 10, 11, 12],
+    ),
+    (Giver::Unpack, "unpack", &[13]),
+    (Giver::Pack, "pack", &[2, 3, 5, 13]),
+    (Giver::Drive, "drive", &[14, 15, 16, 17, 18]),
+];
 
 const STATES: [&str; 3] = ["running", "ended", "tripped"];
 
@@ -27,8 +45,10 @@ struct Tally {
     over_axis: usize,
     calls: usize,
     steps: u64,
-    /// By number; 0 stands for none.
-    refusals: [usize; 19],
+    unpacked: usize,
+    packed: usize,
+    /// By what gave them, and by number; 0 stands for none.
+    refusals: [[usize; 19]; 4],
     causes: [usize; 7],
     states: [usize; 3],
     faults: usize,
@@ -55,8 +75,8 @@ impl Written<'_> {
 }
 
 impl Tally {
-    fn refusal(&mut self, written: &mut Written) {
-        self.refusals[written.byte()] += 1;
+    fn refusal(&mut self, giver: Giver, written: &mut Written) {
+        self.refusals[giver as usize][written.byte()] += 1;
         written.number(5);
     }
 
@@ -73,21 +93,41 @@ impl Tally {
     fn check(&mut self, bytes: &[u8]) {
         let mut written = Written(bytes);
         if written.byte() == 1 {
-            self.refusal(&mut written);
+            self.refusal(Giver::Check, &mut written);
         }
+    }
+
+    fn unpack(&mut self, bytes: &[u8]) {
+        let mut written = Written(bytes);
+        // Where check refuses, it refused before the calls too, and was counted there.
+        if written.byte() == 1 {
+            return;
+        }
+        if written.byte() == 1 {
+            return self.refusal(Giver::Unpack, &mut written);
+        }
+        self.unpacked += 1;
+    }
+
+    fn pack(&mut self, bytes: &[u8]) {
+        let mut written = Written(bytes);
+        if written.byte() == 1 {
+            return self.refusal(Giver::Pack, &mut written);
+        }
+        self.packed += 1;
     }
 
     fn run(&mut self, bytes: &[u8], calls: usize, table: bool) {
         let mut written = Written(bytes);
         if written.byte() == 1 {
-            return self.refusal(&mut written);
+            return self.refusal(Giver::Check, &mut written);
         }
         self.accepted += 1;
         self.over_axis += usize::from(!table);
         self.calls += calls;
         for _ in 0..calls {
             if written.byte() == 1 {
-                self.refusal(&mut written);
+                self.refusal(Giver::Drive, &mut written);
             } else {
                 self.steps += written.number(4);
                 self.state(&mut written);
@@ -99,7 +139,7 @@ impl Tally {
             written.number(8);
         }
         if written.byte() == 1 {
-            self.refusal(&mut written);
+            self.refusal(Giver::Drive, &mut written);
         } else {
             written.number(4);
         }
@@ -120,7 +160,7 @@ impl Tally {
     /// Prints it all, and says whether everything was met.
     fn report(&self) -> bool {
         let modules: usize = self.kinds.iter().sum();
-        println!("{modules} modules and call lists, no difference");
+        println!("{modules} modules, call lists and contents, no difference");
         for (kind, count) in Kind::ALL.iter().zip(self.kinds) {
             println!("  {count} {kind:?}");
         }
@@ -132,19 +172,17 @@ impl Tally {
             "{} faults, {} of them marked; {} lists with sixteen",
             self.faults, self.marked, self.fullest
         );
+        println!("{} unpacked, {} packed", self.unpacked, self.packed);
         let mut all = true;
         let mut print = |what: &str, count: usize| {
             println!("{what}: {count}");
             all &= count > 0;
         };
-        for (number, count) in self
-            .refusals
-            .iter()
-            .enumerate()
-            .skip(1)
-            .filter(|(number, _)| *number != OF_PACK)
-        {
-            print(&format!("refusal {number}"), *count);
+        for (giver, name, numbers) in GIVERS {
+            for number in numbers {
+                let count = self.refusals[giver as usize][*number];
+                print(&format!("{name} refuses with {number}"), count);
+            }
         }
         for (cause, count) in self.causes.iter().enumerate().skip(1) {
             print(&format!("cause {cause}"), *count);
@@ -152,7 +190,6 @@ impl Tally {
         for (state, count) in STATES.iter().zip(self.states) {
             print(state, count);
         }
-        println!("refusal {OF_PACK} is pack's, which is not compared");
         all
     }
 }
@@ -181,6 +218,11 @@ fn differ(what: &str, number: usize, case: &Case, engine: &[u8], reading: &[u8])
     println!("rows {}", case.rows);
     println!("host {}", hexadecimal(&case.host));
     println!("calls {}", hexadecimal(&case.calls));
+    println!("lent {:?}", case.lent);
+    println!("entries {}", hexadecimal(&case.contents.entries));
+    println!("instructions {}", hexadecimal(&case.contents.rows));
+    println!("image {}", hexadecimal(&case.contents.image));
+    println!("size {}", case.size);
     println!("engine {}", hexadecimal(engine));
     println!("reading {}", hexadecimal(reading));
     ExitCode::FAILURE
@@ -211,6 +253,24 @@ fn main() -> ExitCode {
             return differ("run", number, &case, &engine, &reading);
         }
         tally.run(&engine, case.calls.len() / 5, !case.host.is_empty());
+        let (entries, rows) = case.lent;
+        let engine = engine::unpack(&case.module, entries, rows);
+        let reading = exchange::unpack(&case.module, entries, rows);
+        if engine != reading {
+            return differ("unpack", number, &case, &engine, &reading);
+        }
+        tally.unpack(&engine);
+        let Contents {
+            entries,
+            rows,
+            image,
+        } = &case.contents;
+        let engine = engine::pack(entries, rows, image, case.size);
+        let reading = exchange::pack(entries, rows, image, case.size);
+        if engine != reading {
+            return differ("pack", number, &case, &engine, &reading);
+        }
+        tally.pack(&engine);
         tally.kinds[case.kind as usize] += 1;
     }
     if tally.report() {

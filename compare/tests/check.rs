@@ -4,8 +4,7 @@
 mod common;
 
 use common::{
-    answer_of_check, assemble, blocks, def, hex, number, single, tables, Content, Fields, NEW, RET,
-    TICK,
+    answer_of_check, assemble, def, hex, module_of, number, single, tables, Fields, NEW, RET, TICK,
 };
 use compare::reading::instruction::Row;
 use compare::reading::module::{open, Shape};
@@ -15,16 +14,6 @@ const BEFORE: Shape = Shape {
     depth: 77,
     mask: 7777,
 };
-
-fn module_of(page: &str, name: &str) -> Vec<u8> {
-    let comment = format!("module {name}");
-    let page = blocks(page);
-    let block = page.iter().find(|block| block.comment == comment);
-    match block.map(|block| &block.content) {
-        Some(Content::Listing(listing)) => hex(listing),
-        _ => panic!("no module {name}"),
-    }
-}
 
 /// The shapes of the worked example.
 fn shapes_of_loop() -> Vec<Shape> {

@@ -2,8 +2,8 @@
 
 mod common;
 
-use common::{def, hex, single, NEW, RET};
-use compare::reading::exchange::{check, run};
+use common::{def, hex, module_of, single, NEW, RET};
+use compare::reading::exchange::{check, pack, run, unpack};
 use std::time::Instant;
 
 fn sample() -> Vec<u8> {
@@ -144,4 +144,44 @@ fn ten_thousand_steps() {
     let quickest = times.min().unwrap();
     println!("10,000 steps took {quickest:?}");
     assert!(quickest.as_micros() < 1000);
+}
+
+#[test]
+fn an_unpack() {
+    let smaller = module_of("FORMAT.md", "smaller");
+    let rows = &smaller[20..108];
+    let mut expected = hex("00  00 02000000 0B000000  0800 00 00  0300 02 01  EEEE EE EE");
+    expected.extend(rows);
+    expected.extend(hex("EE EE EE EE EEEEEEEE  DC 05 C8"));
+    assert_eq!(unpack(&smaller, 3, 12), expected);
+    // One row too few: all that was lent stays, and the image is there.
+    let mut expected = hex("00  01 0D 00 0000 0000  EEEE EE EE  EEEE EE EE");
+    expected.extend([0xEE; 80]);
+    expected.extend(hex("DC 05 C8"));
+    assert_eq!(unpack(&smaller, 2, 10), expected);
+    // A module that is refused is not unpacked.
+    assert_eq!(unpack(&[], 2, 2), hex("01 01 01 0000 0000"));
+}
+
+#[test]
+fn a_pack() {
+    let smaller = module_of("FORMAT.md", "smaller");
+    let entries = hex("0800 00 00  0300 02 01");
+    let (rows, image) = smaller[20..].split_at(88);
+    let mut expected = hex("00 6F000000");
+    expected.extend(&smaller);
+    expected.extend(hex("EE EE"));
+    assert_eq!(pack(&entries, rows, image, 113), expected);
+    // The bytes of an incomplete entry or instruction are ignored.
+    let ragged = [&entries[..], &[1, 2, 3]].concat();
+    let rows_ragged = [rows, &[7; 7]].concat();
+    assert_eq!(pack(&ragged, &rows_ragged, image, 113), expected);
+    assert_eq!(
+        pack(&entries, rows, image, 110),
+        [hex("01 0D 00 0000 0000"), vec![0xEE; 110]].concat()
+    );
+    assert_eq!(
+        pack(&entries, &rows[8..], image, 3),
+        hex("01 03 01 0100 0000  EE EE EE")
+    );
 }

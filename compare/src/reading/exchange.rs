@@ -3,13 +3,20 @@
 
 use super::drive::{Answer, Call, Drive};
 use super::host::{Flag, Host, Port};
+use super::instruction::Row;
 use super::machine::{State, Trip};
 use super::module::{open, Opened, Shape, MOST_INSTRUCTIONS};
+use super::packing::{self, Entry, Parts};
 use super::refusal::{Place, Refusal};
 
-/// The length of a row of a table, and of a call.
+/// The length of a row of a table, of a call, of an entry and of an instruction.
 const ROW: usize = 18;
 const CALL: usize = 5;
+const ENTRY: usize = 4;
+const INSTRUCTION: usize = 8;
+
+/// All bytes of what is lent to be written to.
+const LENT: u8 = 0xEE;
 
 /// The answer of open and check for the bytes of a module, over a sheet of so many rows.
 pub fn check(module: &[u8], rows: usize) -> Vec<u8> {
@@ -81,6 +88,69 @@ pub fn run(module: &[u8], host: &[u8], calls: &[u8]) -> Vec<u8> {
     out
 }
 
+/// What comes of unpacking a module into so many entries and rows.
+pub fn unpack(module: &[u8], entries: usize, rows: usize) -> Vec<u8> {
+    let mut sheet = vec![Shape::default(); MOST_INSTRUCTIONS];
+    let mut entries = vec![entry_of(&[LENT; ENTRY]); entries];
+    let mut rows = vec![Row::of([LENT; INSTRUCTION]); rows];
+    let mut out = Vec::new();
+    match open(module).and_then(|opened| opened.into_checked(&mut sheet)) {
+        Err(refusal) => {
+            out.push(1);
+            put_refusal(&mut out, refusal);
+        }
+        Ok(checked) => {
+            out.push(0);
+            match packing::unpack(&checked, &mut entries, &mut rows) {
+                Ok((n, t)) => {
+                    out.push(0);
+                    put32(&mut out, n as u32);
+                    put32(&mut out, t as u32);
+                }
+                Err(refusal) => {
+                    out.push(1);
+                    put_refusal(&mut out, refusal);
+                }
+            }
+            for entry in entries {
+                put16(&mut out, entry.count);
+                out.extend([entry.arguments, entry.results]);
+            }
+            for row in rows {
+                out.extend([row.op, row.a, row.b, row.c]);
+                put32(&mut out, row.n);
+            }
+            out.extend(checked.image());
+        }
+    }
+    out
+}
+
+/// What comes of packing entries, instructions and an image into an output of so many bytes.
+pub fn pack(entries: &[u8], rows: &[u8], image: &[u8], size: usize) -> Vec<u8> {
+    let entries: Vec<Entry> = entries.chunks_exact(ENTRY).map(entry_of).collect();
+    let rows: Vec<Row> = rows.chunks_exact(INSTRUCTION).map(instruction_of).collect();
+    let parts = Parts {
+        entries: &entries,
+        rows: &rows,
+        image,
+    };
+    let mut output = vec![LENT; size];
+    let mut out = Vec::new();
+    match packing::pack(parts, &mut output) {
+        Ok(length) => {
+            out.push(0);
+            put32(&mut out, length as u32);
+        }
+        Err(refusal) => {
+            out.push(1);
+            put_refusal(&mut out, refusal);
+        }
+    }
+    out.extend(output);
+    out
+}
+
 /// The rows of a table, or none for an axis. Any first byte makes a table.
 fn table_rows(host: &[u8]) -> Option<Vec<Port>> {
     let (_, rows) = host.split_first()?;
@@ -116,6 +186,20 @@ fn call_of(bytes: &[u8]) -> Call {
         1 => Call::Restart,
         _ => Call::PowerCycle,
     }
+}
+
+fn entry_of(bytes: &[u8]) -> Entry {
+    Entry {
+        count: u16::from_le_bytes([bytes[0], bytes[1]]),
+        arguments: bytes[2],
+        results: bytes[3],
+    }
+}
+
+fn instruction_of(bytes: &[u8]) -> Row {
+    let mut row = [0; INSTRUCTION];
+    row.copy_from_slice(bytes);
+    Row::of(row)
 }
 
 fn put16(out: &mut Vec<u8>, number: u16) {

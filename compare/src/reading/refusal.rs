@@ -34,9 +34,7 @@ impl Layer {
 pub enum Refusal {
     Truncated,
     Counts,
-    Entry {
-        routine: u16,
-    },
+    Entry { routine: u16 },
     Length,
     Form(Place),
     Stack(Place),
@@ -46,7 +44,6 @@ pub enum Refusal {
     Target(Place),
     Ending(Place),
     Sheet,
-    /// Of the packer, which is not part of this reading.
     Room,
     Fuel,
     Ended,

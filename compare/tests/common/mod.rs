@@ -107,6 +107,17 @@ pub fn tables(page: &str, heading: &str) -> Vec<Table> {
     tables
 }
 
+/// The bytes of a module that a page lists under this name.
+pub fn module_of(page: &str, name: &str) -> Vec<u8> {
+    let comment = format!("module {name}");
+    let page = blocks(page);
+    let block = page.iter().find(|block| block.comment == comment);
+    match block.map(|block| &block.content) {
+        Some(Content::Listing(listing)) => hex(listing),
+        _ => panic!("no module {name}"),
+    }
+}
+
 /// The number at the beginning of a cell: `4,096`, or `4294967289 (−7)`.
 pub fn number(cell: &str) -> u64 {
     let first = cell.split(' ').next().expect("a cell has a first word");

@@ -8,26 +8,26 @@ use Rattle.host.specs.Axis.{axis_rule, new_axis}
 use Rattle.module.specs.Verdict.{checking}
 use Rattle.drive.specs.declared.call.Call.{Call}
 use Rattle.drive.specs.declared.call.Call.TheVariants.{Grant}
-use Rattle.drive.specs.Calls.{Rule}
-use Rattle.drive.specs.Log.{Log, new_log, log_after, answers, listed}
+use Rattle.drive.specs.Calls.{TickRule}
+use Rattle.drive.specs.Log.{Log, new_log, log_after, answers, fault_list}
 use Rattle.machine.specs.World.{Phase}
 use Rattle.bench.specs.Text.{line, answer_text, port_lines, fault_lines}
 
--- answers, and then the ports and the faults of a log
+-- the lines of answers, and then those of the ports and of the faults of a log
 abbrev pub log_text : List (Result (ℕ × Phase) Values) → Log → List ℕ
-log_text answers l = flat_map (λ answer. line (answer_text answer)) answers ++ (port_lines 0 l.world.ports ++ fault_lines (listed l.entries))
+log_text answers l = flat_map (λ answer. line (answer_text answer)) answers ++ (port_lines 0 l.world.ports ++ fault_lines (fault_list l.entries))
 
--- of calls to a new drive of the module bs, over a host with this tick rule and these first ports
-abbrev pub run_text : List ℕ → Rule → List Port → List Call → List ℕ
+-- the lines of calls to a new drive of the module bs, over a host with this tick rule and these first ports
+abbrev pub run_text : List ℕ → TickRule → List Port → List Call → List ℕ
 run_text bs rule first calls = log_text (answers bs rule calls (new_log bs first)) (log_after bs rule calls (new_log bs first))
 
--- a text, or the line of the refusal where there is one
+-- a text, or the line of the refusal in its place where there is one
 abbrev pub or_refusal : Result (Unit {0}) Values → List ℕ → List ℕ
 or_refusal (Ok u) text = text
 or_refusal (Err e) text = line (refused e)
 
--- the same of a module that is opened and checked first, over a sheet of so many rows
-abbrev pub module_text : List ℕ → ℕ → Rule → List Port → List Call → List ℕ
+-- the same, where the module is opened and checked first, over a sheet of so many rows
+abbrev pub module_text : List ℕ → ℕ → TickRule → List Port → List Call → List ℕ
 module_text bs rows rule first calls = or_refusal (checking bs rows) (run_text bs rule first calls)
 
 -- what bench prints: a grant of 10,000 over a new axis, with as many rows as the longest module has instructions

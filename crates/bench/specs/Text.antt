@@ -12,23 +12,23 @@ abbrev pub line : List ℕ → List ℕ
 line text = text ++ codes "\n"
 
 -- a number, after a space
-abbrev pub number : ℕ → List ℕ
-number n = codes " " ++ decimal n
+abbrev pub number_text : ℕ → List ℕ
+number_text n = codes " " ++ decimal n
 
--- the word of a state
-abbrev pub word : Phase → List ℕ
-word running = codes "running"
-word ended = codes "ended"
-word (tripped trip) = codes "tripped"
+-- a state, in one word
+abbrev pub state_text : Phase → List ℕ
+state_text running = codes "running"
+state_text ended = codes "ended"
+state_text (tripped trip) = codes "tripped"
 
--- what a grant answered: the state with the steps, or the refusal
+-- what a call answered: the state with the steps, or the refusal
 abbrev pub answer_text : Result (ℕ × Phase) Values → List ℕ
-answer_text (Ok answer) = word answer.1 ++ number answer.0
+answer_text (Ok answer) = state_text answer.1 ++ number_text answer.0
 answer_text (Err e) = refused e
 
 -- `port`, its number and its value
 abbrev pub port_text : ℕ → ℕ → List ℕ
-port_text p value = codes "port" ++ (number p ++ number value)
+port_text p value = codes "port" ++ (number_text p ++ number_text value)
 
 -- the lines of ports, from port p on
 abbrev pub port_lines : ℕ → List Port → List ℕ

@@ -4,7 +4,7 @@ use Rattle.std.proofs.Common.{lit≤}
 use Rattle.host.specs.declared.port.Flag.TheVariants.{Order, Sense}
 use Rattle.host.specs.declared.port.Port.{Port}
 use Rattle.host.specs.Ports.{value_at}
-use Rattle.host.specs.Lawful.{Lawful, sensing, sensing_senses}
+use Rattle.host.specs.Lawful.{LawfulHost, sensing, sensing_lawful}
 use Rattle.counter.specs.declared.CounterHost.{CounterHost}
 use Rattle.counter.specs.declared.CounterPort.{CounterPort}
 use Rattle.counter.specs.declared.CounterPort.TheVariants.{Pace, Count}
@@ -24,7 +24,7 @@ ports_with pace count =
 abbrev pub counter_ports : CounterHost → List Port
 counter_ports counter = ports_with counter.pace counter.count
 
--- the ports after a tick: the count gains the pace
+-- the ports after a tick: the count gains the pace, modulo 2 ^ 32
 abbrev pub counted : List Port → List Port
 counted ports = ports_with (value_at ports 0) ((value_at ports 1 + value_at ports 0) % 2 ^ 32)
 
@@ -32,5 +32,5 @@ counted ports = ports_with (value_at ports 0) ((value_at ports 1 + value_at port
 abbrev pub counter_rule : List Port → List Port
 counter_rule ports = sensing ports (counted ports)
 
-pub counter_lawful : Lawful {Base = Unit {0}} counter_ports (λ _. counter_rule)
-counter_lawful = record { few = λ _. lit≤ tt; senses = λ _ ports. sensing_senses ports (counted ports) }
+pub counter_lawful : LawfulHost {Base = Unit {0}} counter_ports (λ _. counter_rule)
+counter_lawful = record { few = λ _. lit≤ tt; senses = λ _ ports. sensing_lawful ports (counted ports) }

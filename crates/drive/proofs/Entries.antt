@@ -6,7 +6,7 @@ use Rattle.faults.specs.Faults.{FaultValues, with_mark, unmarked}
 use Rattle.faults.specs.Lists.{newest, cycled}
 use Rattle.drive.specs.View.{noted, noted_all}
 use Rattle.drive.specs.Calls.{Entry, trip, cycle}
-use Rattle.drive.specs.Log.{Recent, recent, with_entry, with_entries, listed}
+use Rattle.drive.specs.Log.{Recent, recent, with_entry, with_entries, fault_list}
 
 -- a trip, as a fault with its mark
 abbrev mark_it : Trip → FaultValues
@@ -25,8 +25,8 @@ newest_more xs f =
     let is : k + j ≡ length (xs ++ (f ∷ [])) - 16 = omega (arith, length_push (drop k xs) f, length_push xs f, length-drop k xs) in
     ap (drop j) (sym less) ∙ drop-drop j k (xs ++ (f ∷ [])) ∙ ap (λ i. drop i (xs ++ (f ∷ []))) is
 
-listed_trip : (es : List Entry) (t : Trip) → noted (listed es) (trip t) ≡ listed (es ++ (trip t ∷ []))
-listed_trip es t =
+fault_list_trip : (es : List Entry) (t : Trip) → noted (fault_list es) (trip t) ≡ fault_list (es ++ (trip t ∷ []))
+fault_list_trip es t =
     let trips = with_entries (recent [] []) es in
     let before = map mark_it trips.before in
     let since = map unmarked trips.since in
@@ -46,8 +46,8 @@ cycled_both [] ts k = cycled_since ts k ∙ ap (λ i. drop i (map mark_it ts)) (
 cycled_both (b ∷ bs) ts zero = cycled_both bs ts zero ∙ ap (λ i. drop i (map mark_it ts)) (omega arith)
 cycled_both (b ∷ bs) ts (suc k) = cycled_both bs ts k ∙ ap (λ i. drop i (map mark_it ts)) (omega arith)
 
-listed_cycle : (es : List Entry) → noted (listed es) cycle ≡ listed (es ++ (cycle ∷ []))
-listed_cycle es =
+fault_list_cycle : (es : List Entry) → noted (fault_list es) cycle ≡ fault_list (es ++ (cycle ∷ []))
+fault_list_cycle es =
     let trips = with_entries (recent [] []) es in
     let before = trips.before in
     let since = trips.since in
@@ -59,12 +59,12 @@ listed_cycle es =
     ∙ ap newest (sym (append-nil (map mark_it since)))
     ∙ ap (λ (r : Recent). newest (map mark_it r.before ++ map unmarked r.since)) (sym (with_append es (cycle ∷ []) (recent [] [])))
 
-listed_more : (es : List Entry) (e : Entry) → noted (listed es) e ≡ listed (es ++ (e ∷ []))
-listed_more es (trip t) = listed_trip es t
-listed_more es cycle = listed_cycle es
+fault_list_more : (es : List Entry) (e : Entry) → noted (fault_list es) e ≡ fault_list (es ++ (e ∷ []))
+fault_list_more es (trip t) = fault_list_trip es t
+fault_list_more es cycle = fault_list_cycle es
 
 -- the fault list keeps to the entries
-pub listed_on : (more es : List Entry) → noted_all (listed es) more ≡ listed (es ++ more)
-listed_on [] es = ap listed (sym (append-nil es))
-listed_on (e ∷ more) es =
-    ap (λ fs. noted_all fs more) (listed_more es e) ∙ listed_on more (es ++ (e ∷ [])) ∙ ap listed (append_assoc es (e ∷ []) more)
+pub fault_list_on : (more es : List Entry) → noted_all (fault_list es) more ≡ fault_list (es ++ more)
+fault_list_on [] es = ap fault_list (sym (append-nil es))
+fault_list_on (e ∷ more) es =
+    ap (λ fs. noted_all fs more) (fault_list_more es e) ∙ fault_list_on more (es ++ (e ∷ [])) ∙ ap fault_list (append_assoc es (e ∷ []) more)

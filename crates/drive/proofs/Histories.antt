@@ -3,11 +3,11 @@ use Rattle.std.proofs.Common.{◌≡◌, ℕ, zero, suc, ◌+◌, Bool, true, fa
 use Rattle.std.proofs.lemmas.List.{append-nil}
 use Rattle.refusal.specs.Values.{Values, caller}
 use Rattle.host.specs.Ports.{rested}
-use Rattle.machine.specs.Sound.{begun}
+use Rattle.machine.specs.Foretold.{begun}
 use Rattle.machine.specs.World.{Phase, running, ended, tripped, World}
 use Rattle.drive.specs.declared.call.Call.{Call}
 use Rattle.drive.specs.declared.call.Call.TheVariants.{Grant, Restart, PowerCycle}
-use Rattle.drive.specs.Calls.{Rule, by_phase, is_fuel, refusal, next, steps, advanced, trips_of, Entry, cycle, Outcome, done, unless_refused, outcome}
+use Rattle.drive.specs.Calls.{TickRule, by_phase, is_fuel, refusal, next, steps, advanced, trips_of, Entry, cycle, Outcome, done, unless_refused, outcome}
 use Rattle.drive.specs.Law.{Again, restart, power_cycle, History, history_from}
 use Rattle.drive.specs.Log.{Log, log, log_after, answers}
 use Rattle.drive.proofs.Spending.{none_made}
@@ -26,7 +26,7 @@ grants_run fuel (tripped t) h = absurd (go (is_fuel fuel) h)
     go true h = cc
     go false h = cc
 
-module _ (bs : List ℕ) (rule : Rule) where
+module _ (bs : List ℕ) (rule : TickRule) where
   -- a log some steps on: a step that trips is entered
   abbrev stepped : Log → Log
   stepped l =

@@ -16,17 +16,17 @@ use Rattle.machine.specs.World.{Phase}
 use Rattle.drive.specs.declared.call.Call.{Call}
 use Rattle.drive.specs.declared.call.Turn.{Turn}
 use Rattle.drive.specs.declared.drive.Drive.{Drive}
-use Rattle.drive.specs.Calls.{Rule, outcome}
-use Rattle.drive.specs.Log.{Log, new_log, after_call, log_after, answers, listed}
-use Rattle.drive.specs.Law.{Leads, Ran, Logged, is_listed, Standing, Sound, history, Lawful}
+use Rattle.drive.specs.Calls.{TickRule, outcome}
+use Rattle.drive.specs.Log.{Log, new_log, after_call, log_after, answers, fault_list}
+use Rattle.drive.specs.Law.{Leads, Ran, Logged, is_listed, NotStuck, Sound, history, Law}
 use Rattle.drive.specs.View.{Said, module_of, world_in, faults_in, by_values, call_of, said_of, Called, noted_all}
-use Rattle.drive.proofs.Entries.{listed_on}
+use Rattle.drive.proofs.Entries.{fault_list_on}
 use Rattle.drive.proofs.Histories.{same_log}
 use Rattle.drive.proofs.Spending.{phase_is}
-use Rattle.drive.proofs.Stepping.{never, sound_in}
+use Rattle.drive.proofs.Stepping.{never, foretold_in}
 
 -- one call more
-pub leads_push : (rule : Rule) (calls : List Call) (said : List Said) (call : Call) (answer : Result (ℕ × Phase) Values) (d : Drive) (ps : List Port) (m : Drive) (ms : List Port) (e : Drive) (qs : List Port)
+pub leads_push : (rule : TickRule) (calls : List Call) (said : List Said) (call : Call) (answer : Result (ℕ × Phase) Values) (d : Drive) (ps : List Port) (m : Drive) (ms : List Port) (e : Drive) (qs : List Port)
     → Leads rule calls said d ps m ms
     → Called rule call m ms answer e qs
     → Leads rule (calls ++ (call ∷ [])) (said ++ (Some answer ∷ [])) d ps e qs
@@ -41,9 +41,9 @@ leads_push rule (x ∷ calls) (s ∷ said) call answer d ps m ms e qs h c =
 record Agrees (bs : List ℕ) (d : Drive) (ports : List Port) (l : Log) : Type 0 where
   bytes : module_of d ≡ bs
   world : world_in d ports ≡ l.world
-  faults : faults_in d ≡ listed l.entries
+  faults : faults_in d ≡ fault_list l.entries
 
-module _ (bs : List ℕ) (rule : Rule) where
+module _ (bs : List ℕ) (rule : TickRule) where
   -- a call keeps to the log
   keeps : (call : Call) (answer : Result (ℕ × Phase) Values) (d : Drive) (ps : List Port) (e : Drive) (qs : List Port) (l : Log)
       → Agrees bs d ps l
@@ -55,7 +55,7 @@ module _ (bs : List ℕ) (rule : Rule) where
         record {
           bytes = c.bytes ∙ a.bytes;
           world = c.world ∙ ap (λ o. o.world) same;
-          faults = c.faults ∙ (λ i. noted_all (a.faults i) (same i).entries) ∙ listed_on (outcome bs rule call l.world).entries l.entries;
+          faults = c.faults ∙ (λ i. noted_all (a.faults i) (same i).entries) ∙ fault_list_on (outcome bs rule call l.world).entries l.entries;
         },
       )
 
@@ -95,19 +95,19 @@ causes_listed (Host SensePort port) place = refl
 causes_listed (Host OutOfLimits port) place = refl
 
 -- a drive is never stuck
-is_sound : (rule : Rule) (d : Drive) (ports : List Port) → Sound (module_of d) rule (world_in d ports)
-is_sound rule d ports = record { stands = by_state d.machine.state (phase_is d ports); foretold = (never d).foretold (world_in d ports) (sound_in d ports) }
+is_sound : (rule : TickRule) (d : Drive) (ports : List Port) → Sound (module_of d) rule (world_in d ports)
+is_sound rule d ports = record { not_stuck = by_state d.machine.state (phase_is d ports); foretold = (never d).foretold (world_in d ports) (foretold_in d ports) }
   where
-    by_state : (s : State) → (world_in d ports).phase ≡ phase_of s → Standing (module_of d) rule (world_in d ports)
-    by_state Running at = let n = (never d).goes_on rule (world_in d ports) at (sound_in d ports) in inl (n.0, n.1)
+    by_state : (s : State) → (world_in d ports).phase ≡ phase_of s → NotStuck (module_of d) rule (world_in d ports)
+    by_state Running at = let n = (never d).goes_on rule (world_in d ports) at (foretold_in d ports) in inl (n.0, n.1)
     by_state Ended at = inr (inl at)
     by_state (Tripped cause place) at = inr (inr (trip_of cause place, at, causes_listed cause place))
 
 -- the law
-pub is_lawful : (bs : List ℕ) (rule : Rule) (first : List Port) (calls : List Call) (said : List Said) (d : Drive) (ports : List Port)
+pub law_holds : (bs : List ℕ) (rule : TickRule) (first : List Port) (calls : List Call) (said : List Said) (d : Drive) (ports : List Port)
     → Ran bs rule first calls said d ports
-    → Lawful bs rule first calls said d ports
-is_lawful bs rule first calls said d ports ran =
+    → Law bs rule first calls said d ports
+law_holds bs rule first calls said d ports ran =
     let h = logged bs rule first calls said d ports ran in
     record {
       sound = subst (λ b. Sound b rule (world_in d ports)) (same_module bs rule first calls said d ports ran) (is_sound rule d ports);
@@ -119,7 +119,7 @@ is_lawful bs rule first calls said d ports ran =
           = log2
           ∙ same_log bs rule calls calls2 (new_log bs first)
           (sym (ap (history calls2) (k.answered ∙ moved)) ∙ seen ∙ ap (history calls) h.answered) in
-          record { world = k.world ∙ ap (λ l. l.world) same ∙ sym h.world; faults = k.faults ∙ ap (λ l. listed l.entries) same ∙ sym h.faults };
+          record { world = k.world ∙ ap (λ l. l.world) same ∙ sym h.world; faults = k.faults ∙ ap (λ l. fault_list l.entries) same ∙ sym h.faults };
       logged = h;
     }
 

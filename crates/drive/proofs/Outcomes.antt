@@ -6,13 +6,13 @@ use Rattle.host.specs.declared.port.Port.{Port}
 use Rattle.host.specs.Ports.{rested}
 use Rattle.machine.specs.declared.machine.State.{State}
 use Rattle.machine.specs.declared.machine.State.TheVariants.{Running, Ended, Tripped}
-use Rattle.machine.specs.Sound.{begun}
+use Rattle.machine.specs.Foretold.{begun}
 use Rattle.machine.specs.View.{phase_of, world_of}
 use Rattle.machine.specs.World.{Phase, running}
 use Rattle.drive.specs.declared.call.Call.{Call}
 use Rattle.drive.specs.declared.call.Call.TheVariants.{Grant, Restart, PowerCycle}
 use Rattle.drive.specs.declared.drive.Drive.{Drive}
-use Rattle.drive.specs.Calls.{Rule, is_fuel, refusal, steps, advanced, trips_of, cycle, Outcome, accepted, done, unless_refused}
+use Rattle.drive.specs.Calls.{TickRule, is_fuel, refusal, steps, advanced, trips_of, cycle, Outcome, accepted, done, unless_refused}
 use Rattle.faults.specs.Lists.{cycled}
 use Rattle.drive.specs.View.{module_of, world_in, faults_in, Called, noted_all}
 use Rattle.drive.proofs.Spending.{phase_is}
@@ -21,7 +21,7 @@ use Rattle.drive.proofs.Spending.{phase_is}
 abbrev begun_answer : ℕ × Phase → Result (ℕ × Phase) Values
 begun_answer answer = Ok answer
 
-module _ (rule : Rule) (call : Call) (d : Drive) (ps : List Port) where
+module _ (rule : TickRule) (call : Call) (d : Drive) (ps : List Port) where
   -- the refusal is that of the call and of the drive's state
   by_state : {c : Call} {s : State} → call ≡ c → d.machine.state ≡ s → refusal call (world_in d ps).phase ≡ refusal c (phase_of s)
   by_state is at = ap (refusal call) (phase_is d ps) ∙ (λ i. refusal (is i) (phase_of (at i)))

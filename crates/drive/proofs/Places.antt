@@ -5,7 +5,7 @@ use Rattle.module.proofs.Accepts.{accepts_checked, accepts_laid}
 use Rattle.std.specs.Option.{option_map}
 use Rattle.machine.specs.declared.frame.Frame.{Frame}
 use Rattle.machine.specs.Level.{Level, level_of}
-use Rattle.machine.specs.Sound.{AsForetold}
+use Rattle.machine.specs.Foretold.{AsForetold}
 use Rattle.drive.specs.declared.drive.Drive.{Drive}
 use Rattle.drive.specs.View.{module_of, world_in}
 use Rattle.drive.proofs.Stepping.{never}
@@ -26,5 +26,5 @@ small_place d found frame first is =
     let laid = accepts_laid bs (accepts_checked d.checked) in
     let l = level_of frame.now in
     let there : Some l ≡ slice_get (world_in d []).levels 0 = sym (ap (λ o. option_map (λ (f : Bor Frame). level_of f.now) o) is) ∙ first in
-    let at = first_foretold bs (world_in d []).levels l ((never d).foretold (world_in d []) d.sound) there in
+    let at = first_foretold bs (world_in d []).levels l ((never d).foretold (world_in d []) d.foretold) there in
     (omega (arith, at.routine, laid.few), omega (arith, at.place, (laid.entry l.routine at.routine).inside, laid.short))

@@ -2,12 +2,12 @@
 use Rattle.std.proofs.Common.{◌≡◌, ℕ, List, [], Result, refl, ap, ◌∙◌}
 use Rattle.refusal.specs.Values.{Values}
 use Rattle.host.specs.declared.port.Port.{Port}
-use Rattle.machine.specs.Sound.{begun}
+use Rattle.machine.specs.Foretold.{begun}
 use Rattle.machine.specs.View.{world_of}
 use Rattle.machine.specs.World.{Phase, running, ended, tripped, World, world}
 use Rattle.drive.specs.declared.call.Call.TheVariants.{Restart}
 use Rattle.drive.specs.declared.drive.Drive.{Drive}
-use Rattle.drive.specs.Calls.{Rule, refusal, Outcome, accepted, unless_refused}
+use Rattle.drive.specs.Calls.{TickRule, refusal, Outcome, accepted, unless_refused}
 use Rattle.drive.specs.View.{module_of, world_in, faults_in, Called, noted_all}
 
 -- the same over other ports
@@ -33,9 +33,9 @@ module _ (bs : List ℕ) (w : World) where
   same_entries ended ps qs = refl
   same_entries (tripped t) ps qs = refl
 
-pub over_any_host : (old : Rule) (d : Drive) (ps : List Port) (answer : Result (ℕ × Phase) Values) (e : Drive) (qs : List Port)
+pub over_any_host : (old : TickRule) (d : Drive) (ps : List Port) (answer : Result (ℕ × Phase) Values) (e : Drive) (qs : List Port)
     → Called old Restart d ps answer e qs
-    → (rule : Rule) (ports : List Port)
+    → (rule : TickRule) (ports : List Port)
     → Called rule Restart d ports answer e ports
 unfolding world_of
 over_any_host old d ps answer e qs c rule ports =

@@ -6,7 +6,7 @@ use Rattle.machine.specs.declared.machine.State.TheVariants.{Running, Ended, Tri
 use Rattle.machine.specs.View.{phase_of, world_of}
 use Rattle.machine.specs.World.{running, World}
 use Rattle.drive.specs.declared.drive.Drive.{Drive}
-use Rattle.drive.specs.Calls.{Rule, by_phase, next, steps, advanced}
+use Rattle.drive.specs.Calls.{TickRule, by_phase, next, steps, advanced}
 use Rattle.drive.specs.View.{world_in}
 
 -- the world has the phase of the drive's state
@@ -26,7 +26,7 @@ rests d ports stopped x = ap (λ p. by_phase p x 0 0) (phase_is d ports) ∙ go 
     go Ended h = refl
     go (Tripped cause place) h = refl
 
-module _ (bs : List ℕ) (rule : Rule) where
+module _ (bs : List ℕ) (rule : TickRule) where
   -- the last of some steps
   advanced_more : (n : ℕ) (w : World) → advanced bs rule (suc n) w ≡ next bs rule (advanced bs rule n w)
   advanced_more zero w = refl

@@ -4,13 +4,13 @@ use Rattle.std.specs.List.{AllByRecursion}
 use Rattle.refusal.specs.Values.{Values}
 use Rattle.host.specs.declared.port.Port.{Port}
 use Rattle.faults.specs.Causes.{Trip}
-use Rattle.machine.specs.Sound.{AsForetold, begun}
+use Rattle.machine.specs.Foretold.{AsForetold, begun}
 use Rattle.machine.specs.World.{Phase, ended, tripped, World, step}
 use Rattle.drive.specs.declared.call.Call.{Call}
 use Rattle.drive.specs.declared.call.Call.TheVariants.{Grant, Restart, PowerCycle}
 use Rattle.drive.specs.declared.drive.Drive.{Drive}
-use Rattle.drive.specs.Calls.{Rule}
-use Rattle.drive.specs.Log.{new_log, log_after, answers, listed}
+use Rattle.drive.specs.Calls.{TickRule}
+use Rattle.drive.specs.Log.{new_log, log_after, answers, fault_list}
 use Rattle.drive.specs.View.{module_of, world_in, faults_in, Said, Called}
 
 -- a new drive of the module bs
@@ -21,7 +21,7 @@ pub record New (bs : List ℕ) (d : Drive) : Type 0 where
 
 -- These calls, made one after the other over a host with this tick rule, were answered so, and lead from the drive d and the
 -- ports ps to the drive e and the ports qs.
-abbrev pub Leads : Rule → List Call → List Said → Drive → List Port → Drive → List Port → Type 0
+abbrev pub Leads : TickRule → List Call → List Said → Drive → List Port → Drive → List Port → Type 0
 Leads rule [] [] d ps e qs = (e ≡ d) × (qs ≡ ps)
 Leads rule [] (s ∷ said) d ps e qs = ⊥
 Leads rule (call ∷ calls) [] d ps e qs = ⊥
@@ -30,28 +30,28 @@ Leads rule (call ∷ calls) (s ∷ said) d ps e qs =
     × (m : Drive) × (ms : List Port) × Called rule call d ps answer m ms × Leads rule calls said m ms e qs
 
 -- a drive that was new, on a host with these first ports, was called and answered so, and now it is d, and the host has these ports
-abbrev pub Ran : List ℕ → Rule → List Port → List Call → List Said → Drive → List Port → Type 0
+abbrev pub Ran : List ℕ → TickRule → List Port → List Call → List Said → Drive → List Port → Type 0
 Ran bs rule first calls said d ports = (new : Drive) × New bs new × Leads rule calls said new first d ports
 
 -- The answers to these calls are the log's. The drive has the log's state, places and registers of all nested routines, and
--- memory, and its host the log's ports; its faults are the trips of the log.
-pub record Logged (bs : List ℕ) (rule : Rule) (first : List Port) (calls : List Call) (said : List Said) (d : Drive) (ports : List Port) : Type 0 where
+-- memory, and its host the log's ports; its faults are the log's fault list.
+pub record Logged (bs : List ℕ) (rule : TickRule) (first : List Port) (calls : List Call) (said : List Said) (d : Drive) (ports : List Port) : Type 0 where
   pub answered : said ≡ map Some (answers bs rule calls (new_log bs first))
   pub world : world_in d ports ≡ (log_after bs rule calls (new_log bs first)).world
-  pub faults : faults_in d ≡ listed (log_after bs rule calls (new_log bs first)).entries
+  pub faults : faults_in d ≡ fault_list (log_after bs rule calls (new_log bs first)).entries
 
 -- a cause that the documents list: 1 to 3 are the engine's, which has layer 2, 4 to 6 the host's, which has layer 3
 abbrev pub is_listed : Trip → Bool
 is_listed t = (nat_le 1 t.cause && (nat_le t.cause 3 && t.layer == 2)) || (nat_le 4 t.cause && (nat_le t.cause 6 && t.layer == 3))
 
--- it has a next step by the rules, or has ended, or has tripped for a listed cause
-abbrev pub Standing : List ℕ → Rule → World → Type 0
-Standing bs rule w =
+-- a world is not stuck: it has a next step by the rules, or has ended, or has tripped for a listed cause
+abbrev pub NotStuck : List ℕ → TickRule → World → Type 0
+NotStuck bs rule w =
     ((v : World) × (step bs rule w ≡ Some v)) ⊎ ((w.phase ≡ ended) ⊎ ((t : Trip) × (w.phase ≡ tripped t) × (is_listed t ≡ true)))
 
--- and each nested routine has the depth and the constants that the check foretold for its place; after the end there is none
-pub record Sound (bs : List ℕ) (rule : Rule) (w : World) : Type 0 where
-  pub stands : Standing bs rule w
+-- a world is not stuck, and each of its nested routines has the depth and the constants that the check foretold for its place
+pub record Sound (bs : List ℕ) (rule : TickRule) (w : World) : Type 0 where
+  pub not_stuck : NotStuck bs rule w
   pub foretold : AllByRecursion (AsForetold bs) w.levels
 
 -- what begins a run again
@@ -65,22 +65,23 @@ pub record History : Type 0 where
   pub runs : List (ℕ × Again)
   pub latest : ℕ
 
--- a run of so many steps, which ended so, before a history
+-- a history, and before it a run of so many steps and what began the next
 abbrev pub then : ℕ → Again → History → History
 then made again h = record { runs = (made, again) ∷ h.runs; latest = h.latest }
 
--- what an accepted call begins again, if it does
+-- by what an accepted call begins the run again, if it does
 abbrev pub began : Call → Option Again
 began (Grant fuel) = None
 began Restart = Some restart
 began PowerCycle = Some power_cycle
 
--- an accepted call: a grant adds its steps, any other begins again
+-- What is seen of an accepted call and of those after it: the steps of a grant are added to those made; with any other these are
+-- the steps of a run, and the count begins at 0 again.
 abbrev pub seen : Option Again → ℕ → ℕ → (ℕ → History) → History
 seen None made steps later = later (made + steps)
 seen (Some again) made steps later = then made again (later 0)
 
--- of the calls from here on, where some steps were made since the run began
+-- the history of the calls from here on, where so many steps were made since the run began
 abbrev pub history_from : List Call → List Said → ℕ → History
 history_from [] said made = record { runs = []; latest = made }
 history_from (call ∷ calls) [] made = record { runs = []; latest = made }
@@ -88,7 +89,7 @@ history_from (call ∷ calls) (None ∷ said) made = history_from calls said mad
 history_from (call ∷ calls) (Some (Err e) ∷ said) made = history_from calls said made
 history_from (call ∷ calls) (Some (Ok answer) ∷ said) made = seen (began call) made answer.0 (history_from calls said)
 
--- of all calls
+-- the history of all calls
 abbrev pub history : List Call → List Said → History
 history calls said = history_from calls said 0
 
@@ -100,9 +101,9 @@ pub record Alike (d : Drive) (ports : List Port) (e : Drive) (others : List Port
 -- The law of a drive that was new, of the module bs on a host with these first ports and this tick rule, and was called and
 -- answered so. Any second drive that was new, of a module of equal bytes, on any host with equal first ports and an equal tick
 -- rule, is alike if the same is seen of it.
-pub record Lawful (bs : List ℕ) (rule : Rule) (first : List Port) (calls : List Call) (said : List Said) (d : Drive) (ports : List Port) : Type 0 where
+pub record Law (bs : List ℕ) (rule : TickRule) (first : List Port) (calls : List Call) (said : List Said) (d : Drive) (ports : List Port) : Type 0 where
   pub sound : Sound bs rule (world_in d ports)
-  pub alike : (bs2 : List ℕ) (rule2 : Rule) (first2 : List Port) (calls2 : List Call) (said2 : List Said) (e : Drive) (others : List Port)
+  pub alike : (bs2 : List ℕ) (rule2 : TickRule) (first2 : List Port) (calls2 : List Call) (said2 : List Said) (e : Drive) (others : List Port)
       → bs2 ≡ bs
       → rule2 ≡ rule
       → first2 ≡ first

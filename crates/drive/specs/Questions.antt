@@ -6,7 +6,7 @@ use Rattle.refusal.specs.Values.{Values, caller}
 use Rattle.machine.specs.Level.{Level}
 use Rattle.machine.specs.Shown.{running_in}
 
--- a question about what is absent is refused
+-- the answer to a question: what was asked for, or 18 where it is absent
 abbrev pub asked : {X : Type 0} → Option X → Result X Values
 asked None = Err (caller 18)
 asked (Some x) = Ok x

@@ -12,7 +12,7 @@ use Rattle.module.specs.Told.{bytes_of}
 use Rattle.machine.specs.declared.machine.State.{State}
 use Rattle.machine.specs.View.{phase_of, world_of}
 use Rattle.machine.specs.World.{Phase, World}
-use Rattle.drive.specs.Calls.{Rule, Entry, trip, cycle, outcome}
+use Rattle.drive.specs.Calls.{TickRule, Entry, trip, cycle, outcome}
 use Rattle.drive.specs.declared.call.Call.{Call}
 use Rattle.drive.specs.declared.call.Turn.{Turn}
 use Rattle.drive.specs.declared.drive.Drive.{Drive}
@@ -21,7 +21,7 @@ use Rattle.drive.specs.declared.drive.Drive.{Drive}
 abbrev pub module_of : Drive → List ℕ
 module_of d = bytes_of d.checked.opened
 
--- what runs, with the ports of its host
+-- its world: that of its machine, with the ports of its host
 abbrev pub world_in : Drive → List Port → World
 world_in d ports = world_of d.machine ports
 
@@ -37,10 +37,11 @@ by_values answer = result_map_both (λ a. (a.0, phase_of a.1)) values_of answer
 abbrev pub Said : Type 0
 Said = Option (Result (ℕ × Phase) Values)
 
--- the calls of turns, and what was answered to them
+-- the call of a turn
 abbrev pub call_of : Turn → Call
 call_of turn = turn.call
 
+-- what was answered to it
 abbrev pub said_of : Turn → Said
 said_of turn = option_map by_values turn.answer
 
@@ -55,7 +56,7 @@ noted_all faults [] = faults
 noted_all faults (entry ∷ entries) = noted_all (noted faults entry) entries
 
 -- A call to the drive d, over a host with the ports ps and this tick rule, was answered so, and left the drive e and the ports qs.
-pub record Called (rule : Rule) (call : Call) (d : Drive) (ps : List Port) (said : Result (ℕ × Phase) Values) (e : Drive) (qs : List Port) : Type 0 where
+pub record Called (rule : TickRule) (call : Call) (d : Drive) (ps : List Port) (said : Result (ℕ × Phase) Values) (e : Drive) (qs : List Port) : Type 0 where
   pub answer : said ≡ (outcome (module_of d) rule call (world_in d ps)).answer
   pub world : world_in e qs ≡ (outcome (module_of d) rule call (world_in d ps)).world
   pub faults : faults_in e ≡ noted_all (faults_in d) (outcome (module_of d) rule call (world_in d ps)).entries

@@ -1,6 +1,6 @@
 ghost use Rattle.std.specs.Prelude.{◌≡◌, true, []};
 ghost use Rattle.module.specs.Told.{bytes_of};
-ghost use Rattle.machine.specs.Sound.{sound};
+ghost use Rattle.machine.specs.Foretold.{as_foretold};
 ghost use Rattle.machine.specs.View.{world_of};
 
 use faults::list::FaultList;
@@ -18,5 +18,5 @@ pub struct Drive<'a> {
     machine: Machine,
     faults: FaultList,
     // The ports have no part in it, so that it is said over none.
-    ghost sound: { sound (bytes_of checked.opened) (world_of machine []) ≡ true },
+    ghost foretold: { as_foretold (bytes_of checked.opened) (world_of machine []) ≡ true },
 }

@@ -4,7 +4,7 @@ use Rattle.std.proofs.Common.{lit≤}
 use Rattle.host.specs.declared.port.Flag.TheVariants.{Order, Sense}
 use Rattle.host.specs.declared.port.Port.{Port}
 use Rattle.host.specs.Ports.{value_at}
-use Rattle.host.specs.Lawful.{Lawful, sensing, sensing_senses}
+use Rattle.host.specs.Lawful.{LawfulHost, sensing, sensing_lawful}
 use Rattle.drive_cases.specs.declared.lamp.LampHost.{LampHost}
 use Rattle.drive_cases.specs.declared.lamp.LampPort.{LampPort}
 use Rattle.drive_cases.specs.declared.lamp.LampPort.TheVariants.{Ordered, Light, Changes}
@@ -37,5 +37,5 @@ lit ports =
 abbrev pub lamp_rule : List Port → List Port
 lamp_rule ports = sensing ports (lit ports)
 
-pub lamp_lawful : Lawful {Base = Unit {0}} lamp_ports (λ _. lamp_rule)
-lamp_lawful = record { few = λ _. lit≤ tt; senses = λ _ ports. sensing_senses ports (lit ports) }
+pub lamp_lawful : LawfulHost {Base = Unit {0}} lamp_ports (λ _. lamp_rule)
+lamp_lawful = record { few = λ _. lit≤ tt; senses = λ _ ports. sensing_lawful ports (lit ports) }

@@ -1,9 +1,10 @@
 -- What is added one after the other.
-use Rattle.std.proofs.Common.{Ok, Err, Result, IsOk, OnOk, ◌≡◌, ℕ, ◌+◌, ◌-◌, ◌≤◌, length, arith, zero, suc, List, [], ◌∷◌, ◌++◌, take, drop, refl, sym, ap, ◌∙◌, append_assoc}
+use Rattle.std.proofs.Common.{Ok, Err, Result, IsOk, OnOk, ◌≡◌, ℕ, ◌+◌, ◌-◌, ◌≤◌, length, arith, zero, suc, List, [], ◌∷◌, ◌++◌, map, take, drop, refl, sym, ap, ◌∙◌, append_assoc}
 use Rattle.std.proofs.Math.Seq.{take-append-add}
 use Rattle.std.proofs.lemmas.List.{take_all, append-nil}
 use Rattle.std.proofs.lemmas.Grind.{flat_map-append}
 use Rattle.engine.specs.declared.field.Field.{Field}
+use Rattle.engine.specs.declared.field.Field.TheVariants.{One}
 use Rattle.engine.specs.Fields.{field_bytes, fields_bytes, room, added, Added}
 
 absorb : (n : ℕ) (xs ys : List ℕ) → take n (take n xs ++ ys) ≡ take n (xs ++ ys)
@@ -48,6 +49,11 @@ pub as_fits : (old bs : List ℕ) → length old ≤ room → old ++ take (room 
 as_fits old bs small =
     let sum : length old + (room - length old) ≡ room = omega arith in
     sym (take-append-add old bs (room - length old)) ∙ ap (λ n. take n (old ++ bs)) sum
+
+-- numbers of one byte each are those bytes
+pub as_they_are : (bs : List ℕ) → fields_bytes (map One bs) ≡ bs
+as_they_are [] = refl
+as_they_are (b ∷ bs) = ap (λ l. b ∷ l) (as_they_are bs)
 
 -- what holds after an acceptance
 pub succeeded : {E : Type 0} (r : Result (Unit {0}) E) (X : Type 0) → IsOk r → OnOk r X → X

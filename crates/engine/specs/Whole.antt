@@ -4,7 +4,7 @@ use Rattle.std.specs.List.{flat_map}
 use Rattle.std.specs.Option.{option_map, unwrap_or}
 use Rattle.refusal.specs.Values.{Values}
 use Rattle.host.specs.declared.port.Port.{Port}
-use Rattle.host.specs.Axis.{axis_rule, ports_with}
+use Rattle.host.specs.Axis.{axis_rule, new_axis}
 use Rattle.host.specs.Ports.{most_ports}
 use Rattle.host.specs.Table.{table_rule}
 use Rattle.module.specs.declared.shape.ShapeRow.{ShapeRow}
@@ -16,8 +16,8 @@ use Rattle.machine.specs.Level.{Level, value_of}
 use Rattle.machine.specs.Shown.{running_in}
 use Rattle.machine.specs.World.{Phase, World}
 use Rattle.drive.specs.declared.call.Call.{Call}
-use Rattle.drive.specs.Calls.{Rule}
-use Rattle.drive.specs.Log.{Log, new_log, log_after, answers, listed}
+use Rattle.drive.specs.Calls.{TickRule}
+use Rattle.drive.specs.Log.{Log, new_log, log_after, answers, fault_list}
 use Rattle.drive.specs.Questions.{asked, place_in, depth_in}
 use Rattle.engine.specs.declared.field.Field.{Field}
 use Rattle.engine.specs.declared.field.Field.TheVariants.{One, Two, Four}
@@ -36,6 +36,7 @@ register_fields levels = One (depth_in levels % 256) ∷ map Four (registers_in 
 abbrev pub faults_fields : List FaultValues → List Field
 faults_fields faults = One (length faults % 256) ∷ flat_map fault_fields faults
 
+-- the value of a port
 abbrev pub value_field : Port → Field
 value_field p = Four p.value
 
@@ -58,12 +59,13 @@ world_fields w faults =
 
 -- answers, and then the world, the faults and the ports of a log
 abbrev pub log_fields : List (Result (ℕ × Phase) Values) → Log → List Field
-log_fields answers l = flat_map answer_fields answers ++ (world_fields l.world (listed l.entries) ++ port_fields l.world.ports)
+log_fields answers l = flat_map answer_fields answers ++ (world_fields l.world (fault_list l.entries) ++ port_fields l.world.ports)
 
 -- of calls to a new drive of the module bs, over a host with this tick rule and these first ports
-abbrev pub run_fields : List ℕ → Rule → List Port → List Call → List Field
+abbrev pub run_fields : List ℕ → TickRule → List Port → List Call → List Field
 run_fields bs rule first calls = log_fields (answers bs rule calls (new_log bs first)) (log_after bs rule calls (new_log bs first))
 
+-- a 0 and these numbers, or the refusal
 abbrev pub unless_refused : Result (Unit {0}) Values → List Field → List Field
 unless_refused (Ok u) fields = One 0 ∷ fields
 unless_refused (Err e) fields = refused_fields e
@@ -88,29 +90,31 @@ most_rows = 4096
 abbrev pub sheet_fields : List ℕ → List ShapeRow → List Field
 sheet_fields bs sheet = unless_refused (checking bs (length sheet)) (shapes_fields (counts bs) (sheet_after bs sheet))
 
--- and over the first so many rows of a new sheet
+-- what bench_check writes: over a new sheet of so many rows, at most 4,096
 abbrev pub checked_fields : List ℕ → ℕ → List Field
 checked_fields bs rows = sheet_fields bs (take (min rows most_rows) (replicate most_rows blank))
 
--- the calls that are given, at most so many
+-- the most calls that are read
 abbrev pub most_calls : ℕ
 most_calls = 256
 
+-- the calls that stand in these bytes; what is left at the end makes no call
 abbrev pub given_calls : List ℕ → List Call
 given_calls bs = calls_in bs (min (length bs / 5) most_calls)
 
--- the rows of a table that are given, at most so many
-abbrev pub most_given : ℕ
-most_given = 512
+-- the most rows of a table that are read
+abbrev pub most_given_rows : ℕ
+most_given_rows = 512
 
+-- the rows that stand in these bytes
 abbrev pub given_rows : List ℕ → List Port
-given_rows bs = rows_in bs (min (length bs / 18) most_given)
+given_rows bs = rows_in bs (min (length bs / 18) most_given_rows)
 
--- over an axis
+-- what calls to a drive of bs write, over a new axis
 abbrev pub axis_fields : List ℕ → List Call → List Field
-axis_fields bs calls = unless_refused (checking bs most_rows) (run_fields bs axis_rule (ports_with 0 50 0 0) calls)
+axis_fields bs calls = unless_refused (checking bs most_rows) (run_fields bs axis_rule new_axis calls)
 
--- over a table, of which the rows past the ports stay
+-- and over a table of these rows, which stand behind; rows past the ports stay as they are
 abbrev pub table_fields : List ℕ → List Port → List Call → List Field
 table_fields bs rows calls =
     unless_refused (checking bs most_rows)
@@ -121,12 +125,14 @@ table_fields bs rows calls =
 abbrev pub host_fields : List ℕ → List ℕ → List Call → List Field
 host_fields bs host calls = cond (nat_lt 0 (length host)) (table_fields bs (given_rows (drop 1 host)) calls) (axis_fields bs calls)
 
+-- what bench_run writes, by the bytes that it is given
 abbrev pub ran_fields : List ℕ → List ℕ → List ℕ → List Field
 ran_fields bs host calls = host_fields bs host (given_calls calls)
 
--- as much of what is to be written as fits, and the output after it
+-- as much of what is to be written as fits
 abbrev pub fitting : List ℕ → List Field → List ℕ
 fitting out fields = take (length out) (take room (fields_bytes fields))
 
+-- the output afterwards: what fits stands at its start, and all beyond it stays
 abbrev pub laid : List ℕ → List Field → List ℕ
 laid out fields = fitting out fields ++ drop (length (fitting out fields)) out

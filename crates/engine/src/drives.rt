@@ -103,7 +103,12 @@ fn add_drive(text: &mut Text, drive: &Drive<'_>)
 }
 
 // Makes calls to a new drive, and adds what comes of them.
-pub fn add_run<H: Host>(text: &mut Text, checked: Checked<'_>, host: &mut H, turns: &mut [Turn])
+pub(crate) fn add_run<H: Host>(
+    text: &mut Text,
+    checked: Checked<'_>,
+    host: &mut H,
+    turns: &mut [Turn],
+)
     ensures text { Added text.old.items (fields_bytes (run_fields (bytes_of checked.entry.opened) (H.rule (H.base host.old)) (H.ports host.old) (map call_of turns.old))) text.new.items }
     ensures ports { H.ports host.new ≡ (log_after (bytes_of checked.entry.opened) (H.rule (H.base host.old)) (map call_of turns.old) (new_log (bytes_of checked.entry.opened) (H.ports host.old))).world.ports }
     ensures base { H.base host.new ≡ H.base host.old }

@@ -1,17 +1,18 @@
 // Numbers of some bytes each, and the text that they are added to.
-ghost use Rattle.std.specs.Prelude.{◌≡◌, take};
+ghost use Rattle.std.specs.Prelude.{◌≡◌, map, take};
+ghost use Rattle.engine.specs.declared.field.Field.TheVariants.{One};
 ghost use Rattle.engine.specs.Fields.{field_bytes, fields_bytes, added, Added};
 
 use arrayvec::ArrayVec;
 
 // The most bytes that are written.
-pub const ROOM: usize = 32_768;
+pub(crate) const ROOM: usize = 40_960;
 
-pub type Text = ArrayVec<u8, ROOM>;
+pub(crate) type Text = ArrayVec<u8, ROOM>;
 
 // A number of one, two, four or eight bytes.
 #[derive(Clone, Copy)]
-pub enum Field {
+pub(crate) enum Field {
     One(u8),
     Two(u16),
     Four(u32),
@@ -19,7 +20,7 @@ pub enum Field {
 }
 
 // The first so many items, or all.
-pub fn first<T>(items: &[T], count: usize) -> &[T]
+pub(crate) fn first<T>(items: &[T], count: usize) -> &[T]
     ensures { result.now ≡ take count items.now }
 {
     if items.len() <= count {
@@ -37,8 +38,15 @@ fn add_bytes(text: &mut Text, bytes: &[u8])
     let _fits = text.try_extend_from_slice(first(bytes, left));
 }
 
+// Adds bytes as they are.
+pub(crate) fn add_plain(text: &mut Text, bytes: &[u8])
+    ensures { Added text.old.items (fields_bytes (map One bytes.now)) text.new.items }
+{
+    add_bytes(text, bytes);
+}
+
 // Adds a number, its lowest byte first.
-pub fn add(text: &mut Text, field: Field)
+pub(crate) fn add(text: &mut Text, field: Field)
     ensures { Added text.old.items (field_bytes field) text.new.items }
 {
     match field {
@@ -50,7 +58,7 @@ pub fn add(text: &mut Text, field: Field)
 }
 
 // Adds numbers, one after the other.
-pub fn add_all(text: &mut Text, fields: &[Field])
+pub(crate) fn add_all(text: &mut Text, fields: &[Field])
     ensures { Added text.old.items (fields_bytes fields.now) text.new.items }
 {
     for field in fields {

@@ -1,23 +1,29 @@
-//! The engine for callers in other languages: it checks a module, or makes calls to a drive of it, and writes what comes of
-//! that as bytes.
+//! The engine for callers in other languages: it checks a module, makes calls to a drive of it, takes it apart, or puts one
+//! together, and writes what comes of that as bytes.
 
 #![tactic(auto)]
 
 ghost use Rattle.std.specs.Prelude.{◌≡◌, ◌++◌, ◌≤◌, length, take, drop};
 ghost use Rattle.engine.specs.Fields.{room};
+ghost use Rattle.engine.specs.Parts.{unpacked_fields, packed_fields};
 ghost use Rattle.engine.specs.Whole.{checked_fields, ran_fields, fitting, laid};
 
 use drive::call::{Call, Turn};
 use field::Text;
-use given::{CALL, fill_turns};
+use given::{CALL, ENTRY, INSTRUCTION, fill_entries, fill_instructions, fill_turns};
+use isa::row::Row;
+use module::entry::Entry;
 use module::limits;
 use module::shape::ShapeRow;
 use modules::{add_check, add_host_run};
+use packing::parts::Parts;
+use parts::{add_pack, add_unpack};
 
 mod drives;
 mod field;
 mod given;
 mod modules;
+mod parts;
 mod text;
 
 // The most calls that are read.
@@ -26,6 +32,30 @@ const CALLS: usize = 256;
 const BLANK: Turn = Turn {
     call: Call::Restart,
     answer: None,
+};
+
+// The most entries and instructions that are read, and the longest output that pack is lent.
+const ENTRIES: usize = 128;
+
+const INSTRUCTIONS: usize = 8_192;
+
+const OUTPUT: usize = 40_000;
+
+// What is lent to unpack and pack: all its bytes are EE, so that it shows where nothing was written.
+const LENT_BYTE: u8 = 0xEE;
+
+const LENT_ENTRY: Entry = Entry {
+    count: 0xEEEE,
+    arguments: LENT_BYTE,
+    results: LENT_BYTE,
+};
+
+const LENT_ROW: Row = Row {
+    op: LENT_BYTE,
+    a: LENT_BYTE,
+    b: LENT_BYTE,
+    c: LENT_BYTE,
+    n: 0xEEEE_EEEE,
 };
 
 // Writes as much of a text as fits, and says how much that is.
@@ -40,7 +70,7 @@ fn give(text: &Text, out: &mut [u8]) -> usize
 }
 
 /// Checks a module over a sheet of so many rows, but not more than 4,096, and writes what check answers and leaves. It says how
-/// much it wrote: as much as fits, and no more than 32,768 bytes.
+/// much it wrote: as much as fits, and no more than 40,960 bytes.
 #[unsafe(no_mangle)]
 pub extern "C" fn bench_check(bytes: &[u8], rows: usize, out: &mut [u8]) -> usize
     ensures length { result ≡ length (fitting out.old (checked_fields bytes.now rows)) }
@@ -66,5 +96,59 @@ pub extern "C" fn bench_run(bytes: &[u8], host: &[u8], calls: &[u8], out: &mut [
     fill_turns(calls, turns);
     let mut text = Text::new();
     add_host_run(&mut text, bytes, host, turns);
+    give(&text, out)
+}
+
+/// Checks a module, unpacks it into so many entries and rows, 64 and 4,096 at most, and writes what comes of that, in the same
+/// way.
+#[unsafe(no_mangle)]
+pub extern "C" fn bench_unpack(bytes: &[u8], entries: usize, rows: usize, out: &mut [u8]) -> usize
+    ensures length { result ≡ length (fitting out.old (unpacked_fields bytes.now entries rows)) }
+    ensures out { out.new ≡ laid out.old (unpacked_fields bytes.now entries rows) }
+{
+    let mut lent_entries = [LENT_ENTRY; limits::ROUTINES];
+    let count = entries.min(limits::ROUTINES);
+    let mut lent_rows = [LENT_ROW; limits::INSTRUCTIONS];
+    let total = rows.min(limits::INSTRUCTIONS);
+    let mut text = Text::new();
+    add_unpack(
+        &mut text,
+        bytes,
+        &mut lent_entries[..count],
+        &mut lent_rows[..total],
+    );
+    give(&text, out)
+}
+
+/// Packs entries, 128 at most, instructions, 8,192 at most, and an image into an output of so many bytes, 40,000 at most, and
+/// writes what comes of that, in the same way.
+#[unsafe(no_mangle)]
+pub extern "C" fn bench_pack(
+    entries: &[u8],
+    rows: &[u8],
+    image: &[u8],
+    size: usize,
+    out: &mut [u8],
+) -> usize
+    ensures length { result ≡ length (fitting out.old (packed_fields entries.now rows.now image.now size)) }
+    ensures out { out.new ≡ laid out.old (packed_fields entries.now rows.now image.now size) }
+{
+    let mut given_entries = [LENT_ENTRY; ENTRIES];
+    let count = (entries.len() / ENTRY).min(ENTRIES);
+    let given_entries = &mut given_entries[..count];
+    fill_entries(entries, given_entries);
+    let mut given_rows = [LENT_ROW; INSTRUCTIONS];
+    let total = (rows.len() / INSTRUCTION).min(INSTRUCTIONS);
+    let given_rows = &mut given_rows[..total];
+    fill_instructions(rows, given_rows);
+    let parts = Parts {
+        entries: given_entries,
+        rows: given_rows,
+        image,
+    };
+    let mut output = [LENT_BYTE; OUTPUT];
+    let length = size.min(OUTPUT);
+    let mut text = Text::new();
+    add_pack(&mut text, parts, &mut output[..length]);
     give(&text, out)
 }

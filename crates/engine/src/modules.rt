@@ -33,7 +33,7 @@ const BLANK: Port = Port {
 };
 
 // The checked module, if it is accepted.
-fn examine<'a>(bytes: &'a [u8], sheet: &mut [ShapeRow]) -> Result<Checked<'a>, Refusal>
+pub(crate) fn examine<'a>(bytes: &'a [u8], sheet: &mut [ShapeRow]) -> Result<Checked<'a>, Refusal>
     ensures verdict { verdict_of result ≡ checking bytes.now (length sheet.old) }
     ensures sheet { sheet.new ≡ sheet_after bytes.now sheet.old }
     ensures bytes { IfOk result (λ m. bytes_of m.opened ≡ bytes.now) }
@@ -58,7 +58,7 @@ fn add_module(text: &mut Text, checked: &Checked<'_>, sheet: &[ShapeRow])
 }
 
 // Checks a module over a sheet.
-pub fn add_check(text: &mut Text, bytes: &[u8], sheet: &mut [ShapeRow])
+pub(crate) fn add_check(text: &mut Text, bytes: &[u8], sheet: &mut [ShapeRow])
     ensures { Added text.old.items (fields_bytes (sheet_fields bytes.now sheet.old)) text.new.items }
 {
     match examine(bytes, sheet) {
@@ -108,7 +108,7 @@ fn rest(host: &[u8]) -> &[u8]
 }
 
 // Makes calls over the host that is given.
-pub fn add_host_run(text: &mut Text, bytes: &[u8], host: &[u8], turns: &mut [Turn])
+pub(crate) fn add_host_run(text: &mut Text, bytes: &[u8], host: &[u8], turns: &mut [Turn])
     ensures { Added text.old.items (fields_bytes (host_fields bytes.now host.now (map call_of turns.old))) text.new.items }
 {
     if host.len() == 0 {

@@ -1,4 +1,4 @@
-// What comes of calls, number by number.
+// What is written of each thing, number by number.
 ghost use Rattle.std.specs.Prelude.{◌≡◌, map};
 ghost use Rattle.std.specs.List.{flat_map};
 ghost use Rattle.refusal.specs.Values.{values_of, told};
@@ -6,7 +6,7 @@ ghost use Rattle.faults.specs.Causes.{trip_of};
 ghost use Rattle.faults.specs.Faults.{values_of as fault_values};
 ghost use Rattle.machine.specs.View.{phase_of};
 ghost use Rattle.drive.specs.View.{by_values, said_of};
-ghost use Rattle.engine.specs.Fields.{fields_bytes, refusal_fields, refused_fields, trip_fields, state_fields, answer_fields, place_fields, said_fields, fault_fields, row_fields, Added};
+ghost use Rattle.engine.specs.Fields.{fields_bytes, refusal_fields, refused_fields, trip_fields, state_fields, answer_fields, place_fields, said_fields, fault_fields, row_fields, entry_fields, instruction_fields, Added};
 ghost use Rattle.engine.specs.Whole.{shape_fields};
 
 use crate::field::{Field, Text, add, add_all};
@@ -14,7 +14,9 @@ use drive::call::{Answer, Turn};
 use faults::cause::Cause;
 use faults::fault::Fault;
 use host::port::{Flag, Port};
+use isa::row::Row;
 use machine::machine::State;
+use module::entry::Entry;
 use module::shape::ShapeRow;
 use refusal::{Place, Refusal};
 
@@ -42,14 +44,14 @@ fn trip_fields(cause: Cause, place: Place) -> [Field; 5]
 }
 
 // A 1 and the refusal.
-pub fn add_refusal(text: &mut Text, refusal: Refusal)
+pub(crate) fn add_refusal(text: &mut Text, refusal: Refusal)
     ensures { Added text.old.items (fields_bytes (refused_fields (values_of refusal))) text.new.items }
 {
     add(text, Field::One(1));
     add_all(text, &refusal_fields(refusal));
 }
 
-pub fn add_state(text: &mut Text, state: State)
+pub(crate) fn add_state(text: &mut Text, state: State)
     ensures { Added text.old.items (fields_bytes (state_fields (phase_of state))) text.new.items }
 {
     match state {
@@ -76,7 +78,7 @@ fn add_answer(text: &mut Text, answer: Answer)
 }
 
 // The answers that were filled in.
-pub fn add_answers(text: &mut Text, turns: &[Turn])
+pub(crate) fn add_answers(text: &mut Text, turns: &[Turn])
     ensures { Added text.old.items (fields_bytes (flat_map said_fields (map said_of turns.now))) text.new.items }
 {
     for turn in turns {
@@ -87,7 +89,7 @@ pub fn add_answers(text: &mut Text, turns: &[Turn])
 }
 
 // The place, or a 1 and the refusal.
-pub fn add_place(text: &mut Text, place: Result<Place, Refusal>)
+pub(crate) fn add_place(text: &mut Text, place: Result<Place, Refusal>)
     ensures { Added text.old.items (fields_bytes (place_fields (told place))) text.new.items }
 {
     match place {
@@ -103,7 +105,7 @@ pub fn add_place(text: &mut Text, place: Result<Place, Refusal>)
     }
 }
 
-pub fn add_fault(text: &mut Text, fault: Fault)
+pub(crate) fn add_fault(text: &mut Text, fault: Fault)
     ensures { Added text.old.items (fields_bytes (fault_fields (fault_values fault))) text.new.items }
 {
     add_all(text, &trip_fields(fault.cause, fault.place));
@@ -128,7 +130,7 @@ fn row_fields(row: Port) -> [Field; 6]
 }
 
 // The rows of a table.
-pub fn add_rows(text: &mut Text, rows: &[Port])
+pub(crate) fn add_rows(text: &mut Text, rows: &[Port])
     ensures { Added text.old.items (fields_bytes (flat_map row_fields rows.now)) text.new.items }
 {
     for row in rows {
@@ -143,10 +145,49 @@ fn shape_fields(row: ShapeRow) -> [Field; 2]
 }
 
 // Rows of a sheet.
-pub fn add_shapes(text: &mut Text, rows: &[ShapeRow])
+pub(crate) fn add_shapes(text: &mut Text, rows: &[ShapeRow])
     ensures { Added text.old.items (fields_bytes (flat_map shape_fields rows.now)) text.new.items }
 {
     for row in rows {
         add_all(text, &shape_fields(*row));
+    }
+}
+
+fn entry_fields(entry: Entry) -> [Field; 3]
+    ensures { result ≡ entry_fields entry }
+{
+    [
+        Field::Two(entry.count),
+        Field::One(entry.arguments),
+        Field::One(entry.results),
+    ]
+}
+
+pub(crate) fn add_entries(text: &mut Text, entries: &[Entry])
+    ensures { Added text.old.items (fields_bytes (flat_map entry_fields entries.now)) text.new.items }
+{
+    for entry in entries {
+        add_all(text, &entry_fields(*entry));
+    }
+}
+
+fn instruction_fields(row: Row) -> [Field; 5]
+    ensures { result ≡ instruction_fields row }
+{
+    [
+        Field::One(row.op),
+        Field::One(row.a),
+        Field::One(row.b),
+        Field::One(row.c),
+        Field::Four(row.n),
+    ]
+}
+
+// Rows of instructions.
+pub(crate) fn add_instructions(text: &mut Text, rows: &[Row])
+    ensures { Added text.old.items (fields_bytes (flat_map instruction_fields rows.now)) text.new.items }
+{
+    for row in rows {
+        add_all(text, &instruction_fields(*row));
     }
 }

@@ -13,18 +13,18 @@ pub record CauseValues : Type 0 where
   pub layer : ℕ
   pub detail : ℕ
 
--- a cause of the engine's
+-- a cause of the engine's, by its number and detail
 abbrev pub by_engine : ℕ → ℕ → CauseValues
 by_engine number detail = record { number = number; layer = layer_number Engine; detail = detail }
 
--- a refusal of the host's has its own number and layer
+-- the numbers of a cause; a refusal of the host's has its own number and layer, and the port is its detail
 abbrev pub cause_of : Cause → CauseValues
 cause_of ZeroDivisor = by_engine 1 0
 cause_of (MemoryPassed address) = by_engine 2 address
 cause_of TooDeep = by_engine 3 0
 cause_of (Host refusal port) = record { number = (values_of refusal).number; layer = (values_of refusal).layer; detail = port }
 
--- what a step that trips tells
+-- The five numbers of a trip, by which every promise speaks of it: those of its cause, and the place.
 pub record Trip : Type 0 where
   pub cause : ℕ
   pub layer : ℕ

@@ -4,7 +4,7 @@ use Rattle.std.specs.Int.{from_bool}
 use Rattle.faults.specs.declared.fault.Fault.{Fault}
 use Rattle.faults.specs.Causes.{Trip, trip_of}
 
--- The mark is 1 once a power cycle has passed, and 0 before.
+-- The five numbers of its trip, and its mark: 1 once a power cycle has passed, and 0 before.
 pub record FaultValues : Type 0 where
   pub cause : ℕ
   pub layer : ℕ
@@ -41,6 +41,7 @@ marked fault =
       mark = 1;
     }
 
+-- a power cycle has passed since the trip
 abbrev pub is_marked : FaultValues → Bool
 is_marked fault = fault.mark == 1
 
@@ -48,5 +49,6 @@ is_marked fault = fault.mark == 1
 abbrev pub no_fault : FaultValues
 no_fault = record { cause = 0; layer = 0; routine = 0; instruction = 0; detail = 0; mark = 0 }
 
+-- the six numbers of a fault
 abbrev pub values_of : Fault → FaultValues
 values_of fault = with_mark (trip_of fault.cause fault.place) (from_bool fault.marked)

@@ -6,7 +6,7 @@ use Rattle.std.specs.List.{AllZip}
 use Rattle.refusal.specs.Values.{Values}
 use Rattle.host.specs.declared.port.Port.{Port}
 use Rattle.host.specs.Ports.{blank, value_at, reading, with_value, ordering, writing, written, if_ok}
-use Rattle.host.specs.Lawful.{Sensed, same_senses}
+use Rattle.host.specs.Lawful.{Sensed, unchanged_ports}
 use Rattle.host.specs.Response.{ticked}
 
 sensed_trans : (p q r : Port) → Sensed p q → Sensed q r → Sensed p r
@@ -25,7 +25,7 @@ senses_trans (p ∷ ps) (q ∷ qs) [] s t = absurd t
 
 -- any number of ticks changes only values of sense ports, as one does
 pub ticked_senses : (rule : List Port → List Port) → ((ps : List Port) → AllZip Sensed ps (rule ps)) → (n : ℕ) (ports : List Port) → AllZip Sensed ports (ticked n rule ports)
-ticked_senses rule senses zero ports = same_senses ports
+ticked_senses rule senses zero ports = unchanged_ports ports
 ticked_senses rule senses (suc n) ports = senses_trans ports (ticked n rule ports) (rule (ticked n rule ports)) (ticked_senses rule senses n ports) (senses (ticked n rule ports))
 
 -- a refused write changes nothing

@@ -16,6 +16,7 @@ most_ports = 256
 abbrev pub blank : Port
 blank = record { value = 0; low = 0; high = 0; flag = Order; rest = None }
 
+-- the port with the value v, and all else as it is
 abbrev pub with_value : Port → ℕ → Port
 with_value port v = record { value = v; low = port.low; high = port.high; flag = port.flag; rest = port.rest }
 
@@ -29,6 +30,7 @@ abbrev pub if_ok : {A X : Type 0} → Result A Values → X → X → X
 if_ok (Ok a) x y = x
 if_ok (Err e) x y = y
 
+-- the value of port p
 abbrev pub value_at : List Port → ℕ → ℕ
 value_at ports p = (slice_index_or ports p blank).value
 
@@ -58,7 +60,7 @@ writing ports p v = cond (nat_lt p (length ports)) (ordering (slice_index_or por
 abbrev pub written : List Port → ℕ → ℕ → List Port
 written ports p v = slice_set ports p (ordered (slice_index_or ports p blank) v)
 
--- a port at rest
+-- a port at rest: with its rest value, if it has one
 abbrev pub at_rest : Port → Port
 at_rest port = with_value port (unwrap_or port.rest port.value)
 

@@ -12,14 +12,14 @@ ticked zero rule ports = ports
 ticked (suc n) rule ports = rule (ticked n rule ports)
 
 -- the ports after the order of a trial, and its ticks
-abbrev pub tried : (List Port → List Port) → List Port → Trial → List Port
-tried rule ports trial = ticked trial.ticks rule (written ports trial.port trial.value)
+abbrev pub trial_ports : (List Port → List Port) → List Port → Trial → List Port
+trial_ports rule ports trial = ticked trial.ticks rule (written ports trial.port trial.value)
 
 -- what a trial answers: a refusal of the port shown, then of the order, and else what the port shows after the ticks
 abbrev pub responding : (List Port → List Port) → List Port → Trial → Result ℕ Values
 responding rule ports trial =
-    result_and (reading ports trial.shown) (result_and (writing ports trial.port trial.value) (Ok (value_at (tried rule ports trial) trial.shown)))
+    result_and (reading ports trial.shown) (result_and (writing ports trial.port trial.value) (Ok (value_at (trial_ports rule ports trial) trial.shown)))
 
 -- and what the ports are then
 abbrev pub responded : (List Port → List Port) → List Port → Trial → List Port
-responded rule ports trial = if_ok (responding rule ports trial) (tried rule ports trial) ports
+responded rule ports trial = if_ok (responding rule ports trial) (trial_ports rule ports trial) ports

@@ -5,7 +5,7 @@ use Rattle.std.specs.Borrow.{GName}
 use Rattle.host.specs.declared.port.Port.{Port}
 use Rattle.host.specs.declared.table.TableHost.{TableHost}
 use Rattle.host.specs.Ports.{most_ports}
-use Rattle.host.specs.Lawful.{Lawful, same_senses}
+use Rattle.host.specs.Lawful.{LawfulHost, unchanged_ports}
 
 abbrev pub table_ports : TableHost → List Port
 table_ports table = take most_ports table.rows.now
@@ -17,5 +17,5 @@ table_rule ports = ports
 abbrev pub table_base : TableHost → GName × List Port
 table_base table = (table.rows.ghost_name, drop most_ports table.rows.now)
 
-pub table_lawful : Lawful {Base = GName × List Port} table_ports (λ _. table_rule)
-table_lawful = record { few = λ _. simp length-take (omega arith); senses = λ _ ports. same_senses ports }
+pub table_lawful : LawfulHost {Base = GName × List Port} table_ports (λ _. table_rule)
+table_lawful = record { few = λ _. simp length-take (omega arith); senses = λ _ ports. unchanged_ports ports }

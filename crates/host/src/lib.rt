@@ -6,7 +6,7 @@ ghost use Rattle.std.specs.Prelude.{◌≡◌, List};
 ghost use Rattle.host.specs.declared.port.Port.{Port};
 ghost use Rattle.host.specs.Refusals.{told};
 ghost use Rattle.host.specs.Ports.{reading, writing, written, rested};
-ghost use Rattle.host.specs.Lawful.{Lawful};
+ghost use Rattle.host.specs.Lawful.{LawfulHost};
 
 use port::HostRefusal;
 
@@ -18,7 +18,7 @@ pub mod table;
 /// Anything that has ports and a tick rule, and keeps to them.
 ///
 /// A host is its ports, which a call may change, and its base, which no call does. The tick rule is a function of the base:
-/// that no call changes the rule follows from the clause `base` (`rule_kept` of `specs/Lawful`), and no clause says it again.
+/// that no call changes the rule follows from the clause `base`, and no clause says it again.
 pub trait Host {
     // Whatever there is of the host that no call changes.
     ghost Base: { Type 0 };
@@ -52,5 +52,5 @@ pub trait Host {
         ensures base { base self.new ≡ base self.old };
 
     // What each host proves: it has at most 256 ports, and its rule changes only values of sense ports.
-    ghost lawful: { Lawful ports rule };
+    ghost lawful: { LawfulHost ports rule };
 }

@@ -10,6 +10,7 @@ use Rattle.isa.specs.declared.instr.Instr.TheVariants.{New, Def, Kill, Mov, Swap
 abbrev pub span : ℕ → ℕ → Span
 span first len = record { first = first; len = len }
 
+-- register r alone
 abbrev pub one : ℕ → Span
 one r = span r 1
 
@@ -17,10 +18,11 @@ one r = span r 1
 abbrev pub none : Span
 none = span 0 0
 
+-- no register in either span
 abbrev pub nothing : Span × Span
 nothing = (none, none)
 
--- at most two spans are read, and two written
+-- what is read and what is written, two spans of each; where fewer are needed, none stands for the others
 abbrev pub touches : Span × Span → Span × Span → Access
 touches reads writes = record { reads = reads; writes = writes }
 
@@ -44,7 +46,7 @@ access (Get a c) called own = touches nothing (one a, none)
 access (Put b c) called own = touches (one b, none) nothing
 access Tick called own = touches nothing nothing
 
--- the routine that an instruction calls
+-- the routine that an instruction calls, if it calls one
 abbrev pub callee : Instr → Option ℕ
 callee New = None
 callee (Def n) = None
@@ -63,7 +65,7 @@ callee (Get a c) = None
 callee (Put b c) = None
 callee Tick = None
 
--- the instruction that a branch goes to
+-- the instruction that a branch goes to when it is taken; no other instruction has one
 abbrev pub target : Instr → Option ℕ
 target New = None
 target (Def n) = None

@@ -14,6 +14,7 @@ use Rattle.isa.specs.declared.instr.Test.TheVariants.{Equal, Less, LessSigned}
 use Rattle.isa.specs.declared.instr.Instr.{Instr}
 use Rattle.isa.specs.declared.instr.Instr.TheVariants.{New, Def, Kill, Mov, Swap, Calc, Divide, Load, Store, Bal, Branch, Call, Ret, Get, Put, Tick}
 
+-- x is one of low to high, both included
 abbrev pub within : ℕ → ℕ → ℕ → Bool
 within low high x = nat_le low x && nat_le x high
 
@@ -30,6 +31,7 @@ names_c op = within 5 17 op || within 24 25 op
 abbrev pub names_n : ℕ → Bool
 names_n op = op == 1 || (within 8 9 op || within 16 22 op)
 
+-- the numbers of the kinds, and of the widths
 abbrev pub is_kind : ℕ → Bool
 is_kind n = nat_le n 2
 
@@ -48,6 +50,7 @@ well_formed r =
     && ((not (within 8 9 r.op) || is_kind r.n)
     && (not (within 16 17 r.op) || is_width r.c))))))
 
+-- what stands in a row for an operation, a part, a kind, a width and a test
 abbrev pub opcode : Operation → ℕ
 opcode Add = 5
 opcode Sub = 6
@@ -78,6 +81,7 @@ test_code Equal = 19
 test_code Less = 20
 test_code LessSigned = 21
 
+-- the row of this opcode and these fields
 abbrev pub row : ℕ → ℕ → ℕ → ℕ → ℕ → Row
 row op a b c n = record { op = op; a = a; b = b; c = c; n = n }
 
@@ -100,6 +104,8 @@ encoded (Get a c) = row 24 a 0 c 0
 encoded (Put b c) = row 25 0 b c 0
 encoded Tick = row 26 0 0 0 0
 
+-- What an opcode or a field stands for, where it stands for something of that kind. For any other number these give the last
+-- case; no conversion and no decoded row shows that.
 abbrev pub operation : ℕ → Operation
 operation op =
     cond (op == 5) Add (cond (op == 6) Sub (cond (op == 7) Mul
@@ -118,7 +124,7 @@ width c = cond (c == 1) One (cond (c == 2) Two Four)
 abbrev pub test : ℕ → Test
 test op = cond (op == 19) Equal (cond (op == 20) Less LessSigned)
 
--- the instruction of a well-formed row, by its opcode
+-- the instruction of a row, by its opcode, if the row is well formed; decoded asks whether it is
 abbrev pub instruction : Row → Instr
 instruction r =
     cond (r.op == 0) New

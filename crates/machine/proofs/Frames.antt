@@ -4,7 +4,7 @@ use Rattle.std.proofs.lemmas.List.{length-map, map-set, get_or-map, length-take,
 use Rattle.machine.specs.declared.frame.Frame.{Frame}
 use Rattle.machine.specs.declared.stack.Stack.{Stack}
 use Rattle.machine.specs.Level.{Level, level_of}
-use Rattle.machine.specs.Nested.{none, level_at, below, running, waiting, first_of}
+use Rattle.machine.specs.Nested.{no_routine, level_at, below, running_routine, waiting, newest_of}
 
 -- a frame has as many registers as its depth says
 pub depth_is : (f : Frame) → length f.registers ≡ 32 → length (level_of f).registers ≡ f.depth
@@ -15,7 +15,7 @@ pub few_registers : (f : Frame) → length (level_of f).registers ≤ 32
 few_registers f = omega (arith, length-take f.depth f.registers, f.few)
 
 pub level_at_lem : (frames : List Frame) (k : ℕ) (d : Frame) → k < length frames → level_at frames k ≡ level_of (get_or frames k d)
-level_at_lem frames k d h = get_or-map level_of frames k d none h
+level_at_lem frames k d h = get_or-map level_of frames k d no_routine h
 
 pub length-below : (frames : List Frame) (n : ℕ) → length (below frames n) ≡ n
 length-below frames zero = refl
@@ -27,13 +27,13 @@ below_set frames k zero f h = refl
 below_set frames k (suc n) f h =
     let ne : n ≡ k → ⊥ = λ e. omega arith in
     let one : level_at (set frames k f) n ≡ level_at frames n =
-    ap (λ ls. get_or ls n none) (map-set level_of frames k f) ∙ get_or-set_other (map level_of frames) k n (level_of f) none ne in
+    ap (λ ls. get_or ls n no_routine) (map-set level_of frames k f) ∙ get_or-set_other (map level_of frames) k n (level_of f) no_routine ne in
     let rest = below_set frames k n f (omega arith) in
     cc
 
 pub set_same : (frames : List Frame) (k : ℕ) (f : Frame) → k < length frames → level_at (set frames k f) k ≡ level_of f
 set_same frames k f h =
-    ap (λ ls. get_or ls k none) (map-set level_of frames k f) ∙ get_or-set_same (map level_of frames) k (level_of f) none (omega (arith, length-map frames level_of))
+    ap (λ ls. get_or ls k no_routine) (map-set level_of frames k f) ∙ get_or-set_same (map level_of frames) k (level_of f) no_routine (omega (arith, length-map frames level_of))
 
 pub below_more : (frames : List Frame) (n : ℕ) → below frames (n + 1) ≡ level_at frames n ∷ below frames n
 below_more frames n = ap (below frames) (add-one n)
@@ -42,17 +42,17 @@ below_more frames n = ap (below frames) (add-one n)
 pub below_split : (frames : List Frame) (n : ℕ) → 0 < n → below frames n ≡ level_at frames (n - 1) ∷ below frames (n - 1)
 below_split frames n h = let e : n ≡ n - 1 + 1 = omega arith in ap (below frames) e ∙ below_more frames (n - 1)
 
-pub running_is : (s : Stack) (d : Frame) → length s.frames ≡ 32 → running s ≡ level_of (get_or s.frames s.top.index d)
-unfolding running
+pub running_is : (s : Stack) (d : Frame) → length s.frames ≡ 32 → running_routine s ≡ level_of (get_or s.frames s.top.index d)
+unfolding running_routine
 running_is s d whole = level_at_lem s.frames s.top.index d (omega (arith, s.top.nested))
 
 pub some_waits : (s : Stack) → 0 < length (waiting s) → 0 < s.top.index
 unfolding waiting
 some_waits s h = omega (arith, length-below s.frames s.top.index)
 
-pub first_waiting : (s : Stack) (d : Frame) → 0 < s.top.index → length s.frames ≡ 32 → first_of (waiting s) ≡ level_of (get_or s.frames (s.top.index - 1) d)
+pub first_waiting : (s : Stack) (d : Frame) → 0 < s.top.index → length s.frames ≡ 32 → newest_of (waiting s) ≡ level_of (get_or s.frames (s.top.index - 1) d)
 unfolding waiting
-first_waiting s d h whole = ap first_of (below_split s.frames s.top.index h) ∙ level_at_lem s.frames (s.top.index - 1) d (omega (arith, s.top.nested))
+first_waiting s d h whole = ap newest_of (below_split s.frames s.top.index h) ∙ level_at_lem s.frames (s.top.index - 1) d (omega (arith, s.top.nested))
 
 -- there is room for one more
 pub room_above : (s : Stack) → length (waiting s) < 31 → s.top.index < 31
@@ -64,7 +64,7 @@ pub few_waiting : (s : Stack) → length (waiting s) ≤ 31
 unfolding waiting
 few_waiting s = omega (arith, length-below s.frames s.top.index, s.top.nested)
 
-pub split_first : (ls : List Level) → 0 < length ls → ls ≡ first_of ls ∷ drop 1 ls
+pub split_first : (ls : List Level) → 0 < length ls → ls ≡ newest_of ls ∷ drop 1 ls
 split_first [] h = absurd (omega arith)
 split_first (l ∷ ls) h = refl
 
@@ -72,7 +72,7 @@ split_first (l ∷ ls) h = refl
 module _ (s : Stack) (whole : length s.frames ≡ 32) (low high : List Frame) where
   -- where a routine is to begin
   module _ (room : s.top.index < 31) (front : low ≡ take (s.top.index + 1) s.frames) (back : high ≡ drop (s.top.index + 1) s.frames) where
-    pub calling : (d : Frame) → level_of (get_or low s.top.index d) ≡ running s
+    pub calling : (d : Frame) → level_of (get_or low s.top.index d) ≡ running_routine s
     calling d = ap (λ l. level_of (get_or l s.top.index d)) front ∙ ap level_of (get_or-take (s.top.index + 1) s.frames s.top.index d (omega arith)) ∙ sym (running_is s d whole)
 
     begun : (f : Frame) → low ++ set high 0 f ≡ set s.frames (s.top.index + 1) f
@@ -87,21 +87,21 @@ module _ (s : Stack) (whole : length s.frames ≡ 32) (low high : List Frame) wh
     pub begun_running : (f : Frame) → level_at (low ++ set high 0 f) (s.top.index + 1) ≡ level_of f
     begun_running f = ap (λ l. level_at l (s.top.index + 1)) (begun f) ∙ set_same s.frames (s.top.index + 1) f (omega arith)
 
-    pub begun_waiting : (f : Frame) → below (low ++ set high 0 f) (s.top.index + 1) ≡ running s ∷ waiting s
-    unfolding running waiting
+    pub begun_waiting : (f : Frame) → below (low ++ set high 0 f) (s.top.index + 1) ≡ running_routine s ∷ waiting s
+    unfolding running_routine waiting
     begun_waiting f =
         ap (λ l. below l (s.top.index + 1)) (begun f) ∙ below_set s.frames (s.top.index + 1) (s.top.index + 1) f (omega arith) ∙ below_more s.frames s.top.index
 
   -- where one ends
   module _ (some : 0 < s.top.index) (front : low ≡ take s.top.index s.frames) (back : high ≡ drop s.top.index s.frames) where
-    pub ending : (d : Frame) → level_of (get_or high 0 d) ≡ running s
+    pub ending : (d : Frame) → level_of (get_or high 0 d) ≡ running_routine s
     ending d =
         ap (λ l. level_of (get_or l 0 d)) back
         ∙ ap level_of (get_or-drop s.top.index s.frames 0 d)
         ∙ ap (λ n. level_of (get_or s.frames n d)) (omega arith)
         ∙ sym (running_is s d whole)
 
-    pub going_on : (d : Frame) → level_of (get_or low (s.top.index - 1) d) ≡ first_of (waiting s)
+    pub going_on : (d : Frame) → level_of (get_or low (s.top.index - 1) d) ≡ newest_of (waiting s)
     going_on d =
         ap (λ l. level_of (get_or l (s.top.index - 1) d)) front
         ∙ ap level_of (get_or-take s.top.index s.frames (s.top.index - 1) d (omega arith))

@@ -11,24 +11,23 @@ use Rattle.module.specs.Told.{bytes_of}
 use Rattle.module.specs.Layout.{routines, count, instr}
 use Rattle.module.specs.Places.{inside, instr_at}
 use Rattle.module.proofs.Accepts.{accepts_laid, accepts_checked}
-use Rattle.module.specs.Rules.{stacks, calls, access_in, both, fits, registers, constants}
+use Rattle.module.specs.Rules.{stacks, calls, access_in, both, within_depth, registers, constants}
 use Rattle.machine.specs.declared.frame.Register.{Register}
 use Rattle.machine.specs.Level.{Level, level_of, is_constant}
 use Rattle.machine.specs.declared.frame.Frame.{Frame}
 use Rattle.machine.specs.declared.machine.Machine.{Machine}
-use Rattle.machine.specs.Nested.{running, waiting, first_of}
+use Rattle.machine.specs.Nested.{running_routine, waiting, newest_of}
 use Rattle.machine.proofs.Frames.{running_is}
 use Rattle.machine.specs.World.{shape_of, allowed, allowed_at, here, calls_routine, awaited, is_return, able}
 
 pub length-shape : (rs : List Register) → length (shape_of rs) ≡ length rs
 length-shape rs = length-map rs is_constant
 
--- the spans of registers that are read and written lie below the depth
+-- the spans of registers that are read, and the first that is written, lie below the depth
 pub record Fit (access : Access) (depth : ℕ) : Type 0 where
   pub read : access.reads.0.first + access.reads.0.len ≤ depth
   pub read2 : access.reads.1.first + access.reads.1.len ≤ depth
   pub write : access.writes.0.first + access.writes.0.len ≤ depth
-  pub write2 : access.writes.1.first + access.writes.1.len ≤ depth
 
 -- what a rule asks of an instruction x of routine r at so many registers
 pub record Legal (bs : List ℕ) (r : ℕ) (x : Instr) (depth : ℕ) : Type 0 where
@@ -44,9 +43,9 @@ legal bs r x s h =
     let p = and_parts (stacks d x) (calls bs x && (registers bs r d x && constants bs r s x)) h in
     let q = and_parts (calls bs x) (registers bs r d x && constants bs r s x) p.1 in
     let t = and_parts (registers bs r d x) (constants bs r s x) q.1 in
-    let u = and_parts (both (fits d) acc.reads) (both (fits d) acc.writes) t.0 in
-    let reads = and_parts (fits d acc.reads.0) (fits d acc.reads.1) u.0 in
-    let writes = and_parts (fits d acc.writes.0) (fits d acc.writes.1) u.1 in
+    let u = and_parts (both (within_depth d) acc.reads) (both (within_depth d) acc.writes) t.0 in
+    let reads = and_parts (within_depth d acc.reads.0) (within_depth d acc.reads.1) u.0 in
+    let writes = and_parts (within_depth d acc.writes.0) (within_depth d acc.writes.1) u.1 in
     record {
       stacked = p.0;
       called = q.0;
@@ -54,7 +53,6 @@ legal bs r x s h =
         read = leb-true _ d reads.0;
         read2 = leb-true _ d reads.1;
         write = leb-true _ d writes.0;
-        write2 = leb-true _ d writes.1;
       };
     }
 
@@ -64,7 +62,6 @@ pub record Ready (bs : List ℕ) (l : Level) (x : Instr) : Type 0 where
   pub stands : here bs l ≡ Some x
   pub legal : Legal bs l.routine x (length l.registers)
   pub routine : l.routine < routines bs
-  pub place : l.pc < count bs l.routine
   pub routine_low : l.routine < 65536
   pub place_low : l.pc < 65536
 
@@ -95,7 +92,6 @@ module _ (bs : List ℕ) (ok : accepted bs ≡ true) where
         stands = e;
         legal = subst (Legal bs l.routine x) (length-shape l.registers) rules;
         routine = p.0;
-        place = p.1;
         routine_low = omega (arith, p.0, laid.few);
         place_low = omega (arith, p.1, entry.inside, laid.short);
       }
@@ -105,13 +101,13 @@ module _ (bs : List ℕ) (ok : accepted bs ≡ true) where
   ready l ls x y h e is = ready_at l y (e ∙ ap Some is) (and_parts (allowed_at bs l (here bs l)) _ h).0
 
 -- the running routine of a machine over a checked module
-pub stands_ready : (checked : Checked) (m : Machine) (x : Instr) {y : Instr} → able (bytes_of checked.opened) (running m.stack) (waiting m.stack) ≡ true →
-    here (bytes_of checked.opened) (running m.stack) ≡ Some x → x ≡ y → Ready (bytes_of checked.opened) (running m.stack) y
-stands_ready checked m x h e is = ready (bytes_of checked.opened) (accepts_checked checked) (running m.stack) (waiting m.stack) x _ h e is
+pub stands_ready : (checked : Checked) (m : Machine) (x : Instr) {y : Instr} → able (bytes_of checked.opened) (running_routine m.stack) (waiting m.stack) ≡ true →
+    here (bytes_of checked.opened) (running_routine m.stack) ≡ Some x → x ≡ y → Ready (bytes_of checked.opened) (running_routine m.stack) y
+stands_ready checked m x h e is = ready (bytes_of checked.opened) (accepts_checked checked) (running_routine m.stack) (waiting m.stack) x _ h e is
 
 -- the same by its frame
 pub frame_ready : (checked : Checked) (m : Machine) (x : Instr) {y : Instr} (d : Frame) → length m.stack.frames ≡ 32 →
-    able (bytes_of checked.opened) (running m.stack) (waiting m.stack) ≡ true → here (bytes_of checked.opened) (running m.stack) ≡ Some x → x ≡ y →
+    able (bytes_of checked.opened) (running_routine m.stack) (waiting m.stack) ≡ true → here (bytes_of checked.opened) (running_routine m.stack) ≡ Some x → x ≡ y →
     Ready (bytes_of checked.opened) (level_of (get_or m.stack.frames m.stack.top.index d)) y
 frame_ready checked m x {y} d whole h e is =
     subst (λ l. Ready (bytes_of checked.opened) l y) (running_is m.stack d whole) (stands_ready checked m x h e is)
@@ -131,7 +127,7 @@ pub record Waits (bs : List ℕ) (r : ℕ) (ls : List Level) : Type 0 where
   pub a : ℕ
   pub b : ℕ
   pub some : 0 < length ls
-  pub caller : Ready bs (first_of ls) (Call a b r)
+  pub caller : Ready bs (newest_of ls) (Call a b r)
 
 -- a test of what an instruction calls, as the instruction
 pub record Calls (r : ℕ) (o : Option Instr) : Type 0 where

@@ -3,36 +3,36 @@ use Rattle.std.proofs.Common.{◌≡◌, ℕ, true, List, ◌∷◌, Some, sym, 
 use Rattle.host.specs.declared.port.Port.{Port}
 use Rattle.machine.specs.declared.machine.Machine.{Machine}
 use Rattle.machine.specs.declared.machine.State.TheVariants.{Running}
-use Rattle.machine.specs.Nested.{running as top, waiting}
-use Rattle.machine.specs.Sound.{NeverStuck, sound}
+use Rattle.machine.specs.Nested.{running_routine, waiting}
+use Rattle.machine.specs.Foretold.{NeverStuck, as_foretold}
 use Rattle.machine.specs.View.{phase_of, levels_in, world_of}
-use Rattle.machine.specs.World.{World, world, running, able, step, step_of}
+use Rattle.machine.specs.World.{World, world, running, able, step, step_in}
 use Rattle.machine.proofs.Legal.{some_if}
 
 -- soundness says nothing of the ports
-pub any_ports : (bs : List ℕ) (m : Machine) (ports later : List Port) → sound bs (world_of m ports) ≡ true → sound bs (world_of m later) ≡ true
-unfolding sound world_of
+pub any_ports : (bs : List ℕ) (m : Machine) (ports later : List Port) → as_foretold bs (world_of m ports) ≡ true → as_foretold bs (world_of m later) ≡ true
+unfolding as_foretold world_of
 any_ports bs m ports later h = h
 
-module _ (bs : List ℕ) (never : NeverStuck bs) (m : Machine) (ports : List Port) (sounds : sound bs (world_of m ports) ≡ true) where
+module _ (bs : List ℕ) (never : NeverStuck bs) (m : Machine) (ports : List Port) (foretold : as_foretold bs (world_of m ports) ≡ true) where
   -- a running machine that is as foretold has a step
-  pub has_step : m.state ≡ Running → able bs (top m.stack) (waiting m.stack) ≡ true
-  unfolding world_of step step_of
+  pub has_step : m.state ≡ Running → able bs (running_routine m.stack) (waiting m.stack) ≡ true
+  unfolding world_of step step_in
   has_step run =
       let rule : List Port → List Port = λ ps. ps in
-      let w = world running (top m.stack ∷ waiting m.stack) m.memory.bytes ports in
+      let w = world running (running_routine m.stack ∷ waiting m.stack) m.memory.bytes ports in
       let same : world_of m ports ≡ w = ap (λ s. world (phase_of s) (levels_in s m.stack) m.memory.bytes ports) run in
-      let next = never.goes_on rule w refl (subst (λ (v : World). sound bs v ≡ true) same sounds) in
-      some_if (able bs (top m.stack) (waiting m.stack)) _ next.0 next.1
+      let next = never.goes_on rule w refl (subst (λ (v : World). as_foretold bs v ≡ true) same foretold) in
+      some_if (able bs (running_routine m.stack) (waiting m.stack)) _ next.0 next.1
 
   phase_running : m.state ≡ Running → (world_of m ports).phase ≡ running
   unfolding world_of
   phase_running run = ap phase_of run
 
   -- and is as foretold after it
-  pub stays_sound : (rule : List Port → List Port) (n : Machine) (later : List Port) → m.state ≡ Running → step bs rule (world_of m ports) ≡ Some (world_of n later) → sound bs (world_of n later) ≡ true
-  stays_sound rule n later run e =
-      let next = never.goes_on rule (world_of m ports) (phase_running run) sounds in
+  pub stays_foretold : (rule : List Port → List Port) (n : Machine) (later : List Port) → m.state ≡ Running → step bs rule (world_of m ports) ≡ Some (world_of n later) → as_foretold bs (world_of n later) ≡ true
+  stays_foretold rule n later run e =
+      let next = never.goes_on rule (world_of m ports) (phase_running run) foretold in
       let both : Some next.0 ≡ Some (world_of n later) = sym next.1 ∙ e in
       let same : next.0 ≡ world_of n later = cc in
-      subst (λ (v : World). sound bs v ≡ true) same next.2
+      subst (λ (v : World). as_foretold bs v ≡ true) same next.2

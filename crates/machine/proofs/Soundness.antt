@@ -27,8 +27,8 @@ use Rattle.machine.specs.declared.frame.Register.{Register}
 use Rattle.machine.specs.declared.frame.Register.TheVariants.{Variable, Constant}
 use Rattle.machine.specs.Level.{Level, level, is_constant, value_of, value, onward, wrote, jumped, copied, values_from, given}
 use Rattle.machine.specs.Memory.{fits, loading}
-use Rattle.machine.specs.Sound.{AsForetold, is_foretold, all_foretold, linked, sound_levels, sound_in, sound, NeverStuck}
-use Rattle.machine.specs.World.{Phase, running, ended, tripped, World, Move, goes, trips, or_trip, or_refused, into, entered, resumed, handed, effect, shape_of, allowed, allowed_at, here, calls_routine, awaited, able, is_return, after, effect_here, step_of, while_running, step}
+use Rattle.machine.specs.Foretold.{AsForetold, is_foretold, all_foretold, linked, levels_as_foretold, as_foretold_in, as_foretold, NeverStuck}
+use Rattle.machine.specs.World.{Phase, running, ended, tripped, World, Move, goes, trips, or_trip, or_refused, into, entered, resumed, handed, effect, shape_of, allowed, allowed_at, here, calls_routine, awaited, able, is_return, after, effect_here, step_in, while_running, step}
 use Rattle.machine.specs.World.{ends as the_end}
 use Rattle.machine.proofs.Copies.{values_length}
 use Rattle.machine.proofs.Legal.{length-shape, inside_parts, calls_it}
@@ -91,13 +91,13 @@ module _ (bs : List ℕ) where
 
   -- a routine that is as foretold, above those that wait
   in_place : (l : Level) (ls : List Level) → is_foretold bs l ≡ true → all_foretold bs ls ≡ true → linked bs l.routine ls ≡ true →
-      sound_levels bs (l ∷ ls) ≡ true
-  unfolding sound_levels all_foretold
+      levels_as_foretold bs (l ∷ ls) ≡ true
+  unfolding levels_as_foretold all_foretold
   in_place l ls f h k = and_from _ _ (and_from _ _ f h) k
 
   -- what an instruction comes to is as foretold
   abbrev Fine : Move → Type 0
-  Fine (goes ls memory ports) = sound_levels bs ls ≡ true
+  Fine (goes ls memory ports) = levels_as_foretold bs ls ≡ true
   Fine the_end = Unit {0}
   Fine (trips cause) = Unit {0}
 
@@ -111,11 +111,11 @@ module _ (bs : List ℕ) where
   or_refused_lem (Err e) port next h = tt
 
   -- and then the machine is as foretold
-  after_sound : (w : World) (l : Level) (m : Move) → sound_levels bs w.levels ≡ true → Fine m → sound bs (after w l m) ≡ true
-  unfolding after sound sound_in
-  after_sound w l (goes ls memory ports) h f = f
-  after_sound w l the_end h f = refl
-  after_sound w l (trips cause) h f = h
+  after_foretold : (w : World) (l : Level) (m : Move) → levels_as_foretold bs w.levels ≡ true → Fine m → as_foretold bs (after w l m) ≡ true
+  unfolding after as_foretold as_foretold_in
+  after_foretold w l (goes ls memory ports) h f = f
+  after_foretold w l the_end h f = refl
+  after_foretold w l (trips cause) h f = h
 
   -- the test of all nested routines, read plainly
   each : (ls : List Level) → all_foretold bs ls ≡ true → AllByRecursion (AsForetold bs) ls
@@ -123,17 +123,17 @@ module _ (bs : List ℕ) where
   each [] h = tt
   each (l ∷ ls) h = let p = and_parts (is_foretold bs l) (all_foretold bs ls) h in (told l p.0, each ls p.1)
 
-  each_sound : (ls : List Level) → sound_levels bs ls ≡ true → AllByRecursion (AsForetold bs) ls
-  unfolding sound_levels
-  each_sound [] h = tt
-  each_sound (l ∷ ls) h = each (l ∷ ls) (and_parts (all_foretold bs (l ∷ ls)) (linked bs l.routine ls) h).0
+  each_of : (ls : List Level) → levels_as_foretold bs ls ≡ true → AllByRecursion (AsForetold bs) ls
+  unfolding levels_as_foretold
+  each_of [] h = tt
+  each_of (l ∷ ls) h = each (l ∷ ls) (and_parts (all_foretold bs (l ∷ ls)) (linked bs l.routine ls) h).0
 
-  each_in : (p : Phase) (ls : List Level) → sound_in bs p ls ≡ true → AllByRecursion (AsForetold bs) ls
-  unfolding sound_in
-  each_in running ls h = each_sound ls h
+  each_in : (p : Phase) (ls : List Level) → as_foretold_in bs p ls ≡ true → AllByRecursion (AsForetold bs) ls
+  unfolding as_foretold_in
+  each_in running ls h = each_of ls h
   each_in ended [] h = tt
   each_in ended (l ∷ ls) h = absurd (false≢true h)
-  each_in (tripped trip) ls h = each_sound ls h
+  each_in (tripped trip) ls h = each_of ls h
 
 module _ (bs : List ℕ) (ok : accepted bs ≡ true) where
   -- a routine that is as foretold stands at the instruction x, which keeps the rules there
@@ -221,12 +221,12 @@ module _ (bs : List ℕ) (ok : accepted bs ≡ true) where
       (h : is_foretold bs l ≡ true) (hs : all_foretold bs ls ≡ true) (k : linked bs l.routine ls ≡ true) where
     -- one instruction on with these registers
     moves : (x : Instr) (rs : List Register) → At l x → ends x ≡ false → shape_of rs ≡ passed x (shape_of l.registers) →
-        sound_levels bs (onward l rs ∷ ls) ≡ true
+        levels_as_foretold bs (onward l rs ∷ ls) ≡ true
     moves x rs st f s = in_place bs (onward l rs) ls (on l x st rs f s) hs k
 
     -- one register is written
     writes : (x : Instr) (a v : ℕ) → At l x → ends x ≡ false → passed x (shape_of l.registers) ≡ shape_of l.registers →
-        Writes bs l.routine x a → sound_levels bs (wrote l a v ∷ ls) ≡ true
+        Writes bs l.routine x a → levels_as_foretold bs (wrote l a v ∷ ls) ≡ true
     writes x a v st f s w = moves x (set l.registers a (Variable v)) st f (shape-set l.registers a v (spared l x st a w) ∙ sym s)
 
     -- a routine begins with its arguments as variables
@@ -242,7 +242,7 @@ module _ (bs : List ℕ) (ok : accepted bs ≡ true) where
         }
 
     -- and then the one that called it waits at its call
-    enters : (a b n : ℕ) → At l (Call a b n) → sound_levels bs (entered bs b n l ∷ (l ∷ ls)) ≡ true
+    enters : (a b n : ℕ) → At l (Call a b n) → levels_as_foretold bs (entered bs b n l ∷ (l ∷ ls)) ≡ true
     unfolding entered all_foretold linked calls_routine
     enters a b n st =
         in_place bs (entered bs b n l) (l ∷ ls) (tell bs (entered bs b n l) (begins_with a b n st)) (and_from _ _ h hs)
@@ -276,7 +276,7 @@ module _ (bs : List ℕ) (ok : accepted bs ≡ true) where
         cond_both (fits (value l b + n) w) _ _ (Fine bs) (λ _. moves (Store w a b n) l.registers st refl refl) (λ _. tt)
     fine (Bal n) st = in_place bs (jumped l n) ls (off l (Bal n) st n refl) hs k
     fine (Branch t a b n) st =
-        cond_both (passing t (value l a) (value l b)) _ _ (λ g. sound_levels bs (g ∷ ls) ≡ true)
+        cond_both (passing t (value l a) (value l b)) _ _ (λ g. levels_as_foretold bs (g ∷ ls) ≡ true)
         (λ _. in_place bs (jumped l n) ls (off l (Branch t a b n) st n refl) hs k)
         (λ _. moves (Branch t a b n) l.registers st refl refl)
     fine (Call a b n) st = cond_both (ltb (length ls) 31) _ _ (Fine bs) (λ _. enters a b n st) (λ _. tt)
@@ -296,9 +296,9 @@ module _ (bs : List ℕ) (ok : accepted bs ≡ true) where
       or_right (eqb r 0) _ (and_from _ _ (legal_here g p.0 p.1) c)
 
   -- a next step, after which all is as foretold
-  next : (rule : List Port → List Port) (w : World) (ls : List Level) → sound_levels bs w.levels ≡ true → sound_levels bs ls ≡ true →
-      (v : World) × (step_of bs rule w ls ≡ Some v) × (sound bs v ≡ true)
-  unfolding step_of sound_levels all_foretold able
+  next : (rule : List Port → List Port) (w : World) (ls : List Level) → levels_as_foretold bs w.levels ≡ true → levels_as_foretold bs ls ≡ true →
+      (v : World) × (step_in bs rule w ls ≡ Some v) × (as_foretold bs v ≡ true)
+  unfolding step_in levels_as_foretold all_foretold able
   next rule w [] all h = absurd (false≢true h)
   next rule w (l ∷ ls) all h =
       let p = and_parts (all_foretold bs (l ∷ ls)) (linked bs l.routine ls) h in
@@ -309,7 +309,7 @@ module _ (bs : List ℕ) (ok : accepted bs ≡ true) where
       = and_from _ _ (legal_here l s.0 s.1) (or_right (not (is_return (here bs l))) _ (is_awaited l.routine ls q.1 p.1)) in (
         after w l m,
         cond-true (able bs l ls) _ _ can ∙ ap (λ o. Some (after w l (effect_here bs rule o l ls w.memory w.ports))) s.1.stands,
-        after_sound bs w l m all (fine rule l ls w.memory w.ports q.0 q.1 p.1 s.0 s.1),
+        after_foretold bs w l m all (fine rule l ls w.memory w.ports q.0 q.1 p.1 s.0 s.1),
       )
 
   -- routine 0 begins with no registers
@@ -324,12 +324,12 @@ module _ (bs : List ℕ) (ok : accepted bs ≡ true) where
 
 -- an accepted module is never stuck
 pub never_stuck : (bs : List ℕ) → accepted bs ≡ true → NeverStuck bs
-unfolding sound sound_in step all_foretold linked
+unfolding as_foretold as_foretold_in step all_foretold linked
 never_stuck bs ok = record {
   begins = λ ports. in_place bs (level 0 0 []) [] (tell bs (level 0 0 []) (first_place_lem bs ok)) refl refl;
   goes_on = λ rule w e h.
-      let all = ap (λ p. sound_in bs p w.levels) (sym e) ∙ h in
+      let all = ap (λ p. as_foretold_in bs p w.levels) (sym e) ∙ h in
       let n = next bs ok rule w w.levels all all in
-      (n.0, ap (λ p. while_running p (step_of bs rule w w.levels)) e ∙ n.1, n.2);
+      (n.0, ap (λ p. while_running p (step_in bs rule w w.levels)) e ∙ n.1, n.2);
   foretold = λ w h. each_in bs w.phase w.levels h;
 }

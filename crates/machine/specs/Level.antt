@@ -4,12 +4,13 @@ use Rattle.machine.specs.declared.frame.Frame.{Frame}
 use Rattle.machine.specs.declared.frame.Register.{Register}
 use Rattle.machine.specs.declared.frame.Register.TheVariants.{Variable, Constant}
 
--- a nested routine: which it is, the instruction that it stands at, and its registers, register 0 first
+-- A level is a nested routine: which it is, the instruction that it stands at, and its registers, register 0 first.
 pub record Level : Type 0 where
   pub routine : ℕ
   pub pc : ℕ
   pub registers : List Register
 
+-- the level of these three
 abbrev pub level : ℕ → ℕ → List Register → Level
 level routine pc registers = record { routine = routine; pc = pc; registers = registers }
 
@@ -17,16 +18,17 @@ level routine pc registers = record { routine = routine; pc = pc; registers = re
 abbrev pub level_of : Frame → Level
 level_of f = level f.routine f.pc (take f.depth f.registers)
 
--- the value of a register, and whether it is a constant
+-- the value of a register
 abbrev pub value_of : Register → ℕ
 value_of (Variable v) = v
 value_of (Constant v) = v
 
+-- whether a register is a constant
 abbrev pub is_constant : Register → Bool
 is_constant (Variable v) = false
 is_constant (Constant v) = true
 
--- the value of register a
+-- the value of register a; 0 where there is none
 unfoldable pub value : Level → ℕ → ℕ
 value l a = value_of (slice_index_or l.registers a (Variable 0))
 
@@ -55,12 +57,12 @@ abbrev pub jumped : Level → ℕ → Level
 jumped l n = level l.routine n l.registers
 
 -- registers copied as variables
-abbrev pub variables : List Register → List Register
-variables registers = map (λ x. Variable (value_of x)) registers
+abbrev pub as_variables : List Register → List Register
+as_variables registers = map (λ x. Variable (value_of x)) registers
 
 -- count registers from b on, copied as variables
 abbrev pub copied : List Register → ℕ → ℕ → List Register
-copied registers b count = variables (take count (drop b registers))
+copied registers b count = as_variables (take count (drop b registers))
 
 -- the values of count registers from a on
 abbrev pub values_from : List Register → ℕ → ℕ → List ℕ

@@ -3,5 +3,5 @@ pub mod Memory
 pub mod Nested
 pub mod World
 pub mod View
-pub mod Sound
+pub mod Foretold
 pub mod Shown

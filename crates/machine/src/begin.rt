@@ -2,7 +2,7 @@
 ghost use Rattle.std.specs.Prelude.{◌≡◌, ◌-◌, ◌≤◌, List, ◌++◌, length, replicate};
 ghost use Rattle.host.specs.declared.port.Port.{Port};
 ghost use Rattle.module.specs.Told.{bytes_of};
-ghost use Rattle.machine.specs.Sound.{begun, NeverStuck};
+ghost use Rattle.machine.specs.Foretold.{begun, NeverStuck};
 ghost use Rattle.machine.specs.View.{world_of};
 
 use crate::machine::{Machine, State};

@@ -1,7 +1,7 @@
 // What an instruction does to the nested routines.
 ghost use Rattle.std.specs.Prelude.{◌≡◌, ◌+◌, ◌^◌, ◌<◌, ◌≤◌, [], ◌∷◌, length, drop};
 ghost use Rattle.machine.specs.Level.{level, level_of, onward, copied, values_from, given};
-ghost use Rattle.machine.specs.Nested.{running, waiting, first_of};
+ghost use Rattle.machine.specs.Nested.{running_routine, waiting, newest_of};
 
 use crate::frame::Frame;
 use crate::stack::{MOST_NESTED, Stack, Top};
@@ -9,7 +9,7 @@ use crate::stack::{MOST_NESTED, Stack, Top};
 impl Stack {
     // Routine 0 at its first instruction, with no registers.
     pub(crate) fn first() -> Stack
-        ensures running { running result ≡ level 0 0 [] }
+        ensures running { running_routine result ≡ level 0 0 [] }
         ensures waiting { waiting result ≡ [] }
     {
         Stack {
@@ -20,7 +20,7 @@ impl Stack {
 
     // The running routine.
     pub(crate) fn running(&self) -> &Frame
-        ensures { level_of result.now ≡ running self.now }
+        ensures { level_of result.now ≡ running_routine self.now }
     {
         &self.frames[self.top.index]
     }
@@ -35,7 +35,7 @@ impl Stack {
     // The newest of the waiting routines.
     pub(crate) fn caller(&self) -> &Frame
         requires { 0 < length (waiting self.now) }
-        ensures { level_of result.now ≡ first_of (waiting self.now) }
+        ensures { level_of result.now ≡ newest_of (waiting self.now) }
     {
         &self.frames[self.top.index - 1]
     }
@@ -43,9 +43,9 @@ impl Stack {
     // A routine begins above the running one, with copies of count of its registers from b on.
     pub(crate) fn enter(&mut self, routine: usize, b: u8, count: u8)
         requires room { length (waiting self.old) < 31 }
-        requires there { b + count ≤ length (running self.old).registers }
-        ensures running { running self.new ≡ level routine 0 (copied (running self.old).registers b count) }
-        ensures waiting { waiting self.new ≡ running self.old ∷ waiting self.old }
+        requires there { b + count ≤ length (running_routine self.old).registers }
+        ensures running { running_routine self.new ≡ level routine 0 (copied (running_routine self.old).registers b count) }
+        ensures waiting { waiting self.new ≡ running_routine self.old ∷ waiting self.old }
     {
         let caller = self.top.index;
         let (below, above) = self.frames.split_at_mut(caller + 1);
@@ -57,10 +57,10 @@ impl Stack {
     // register into on.
     pub(crate) fn leave(&mut self, a: u8, into: u8, count: u8)
         requires some { 0 < length (waiting self.old) }
-        requires there { a + count ≤ length (running self.old).registers }
-        requires room { into + count ≤ length (first_of (waiting self.old)).registers }
-        requires place { (first_of (waiting self.old)).pc < 2 ^ 32 }
-        ensures running { running self.new ≡ onward (first_of (waiting self.old)) (given (first_of (waiting self.old)).registers into (values_from (running self.old).registers a count)) }
+        requires there { a + count ≤ length (running_routine self.old).registers }
+        requires room { into + count ≤ length (newest_of (waiting self.old)).registers }
+        requires place { (newest_of (waiting self.old)).pc < 2 ^ 32 }
+        ensures running { running_routine self.new ≡ onward (newest_of (waiting self.old)) (given (newest_of (waiting self.old)).registers into (values_from (running_routine self.old).registers a count)) }
         ensures waiting { waiting self.new ≡ drop 1 (waiting self.old) }
     {
         let ended = self.top.index;

@@ -3,7 +3,7 @@
 // nothing, and `usize::from` says it no plainer.
 ghost use Rattle.std.specs.Prelude.{◌≡◌, ◌+◌, ◌-◌, ◌^◌, ◌<◌, ◌≤◌, [], ◌∷◌, ◌++◌, length, map, take, drop, slice_set};
 ghost use Rattle.machine.specs.declared.frame.Register.TheVariants.{Variable};
-ghost use Rattle.machine.specs.Level.{level, level_of, value_of, value, still, onward, jumped, exchanged, variables, given};
+ghost use Rattle.machine.specs.Level.{level, level_of, value_of, value, still, onward, jumped, exchanged, as_variables, given};
 ghost use Rattle.machine.specs.Shown.{register_of};
 
 use crate::frame::{Frame, REGISTERS, Register};
@@ -117,7 +117,7 @@ impl Frame {
     // Another routine begins in its place, with these arguments as variables.
     pub(crate) fn begin(&mut self, routine: usize, arguments: &[Register])
         requires { length arguments.now ≤ 32 }
-        ensures { level_of self.new ≡ level routine 0 (variables arguments.now) }
+        ensures { level_of self.new ≡ level routine 0 (as_variables arguments.now) }
     {
         self.routine = routine;
         self.pc = 0;

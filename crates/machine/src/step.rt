@@ -6,8 +6,8 @@ ghost use Rattle.isa.specs.declared.instr.Instr.TheVariants.{Call, Ret};
 ghost use Rattle.module.specs.Told.{bytes_of};
 ghost use Rattle.machine.specs.declared.machine.State.TheVariants.{Running};
 ghost use Rattle.machine.specs.Level.{level_of, value};
-ghost use Rattle.machine.specs.Nested.{running, waiting};
-ghost use Rattle.machine.specs.View.{world_of, Stands, effect_in, Makes, Does};
+ghost use Rattle.machine.specs.Nested.{running_routine, waiting};
+ghost use Rattle.machine.specs.View.{world_of, Stands, effect_in, Performed, PerformedOverAnyHost};
 ghost use Rattle.machine.specs.World.{able, after, trips, here, step as stepped};
 
 use crate::frame::{Frame, Register};
@@ -43,9 +43,9 @@ impl Machine {
     // Trips where it stands.
     fn trip(&mut self, cause: Cause)
         requires running { self.old.state ≡ Running }
-        requires routine { (running self.old.stack).routine < 65536 }
-        requires instruction { (running self.old.stack).pc < 65536 }
-        ensures { (ports : List Port) → world_of self.new ports ≡ after (world_of self.old ports) (running self.old.stack) (trips (cause_of cause)) }
+        requires routine { (running_routine self.old.stack).routine < 65536 }
+        requires instruction { (running_routine self.old.stack).pc < 65536 }
+        ensures { (ports : List Port) → world_of self.new ports ≡ after (world_of self.old ports) (running_routine self.old.stack) (trips (cause_of cause)) }
     {
         let running = self.stack.running();
         let place = Place {
@@ -58,7 +58,7 @@ impl Machine {
     // Begins routine n, with arguments from register b on.
     fn call(&mut self, checked: &Checked, a: u8, b: u8, n: u32) -> Result<(), Cause>
         requires { Stands (bytes_of checked.now.opened) (Call a b n) self.old }
-        ensures done { OnOk result (Does (bytes_of checked.now.opened) (Call a b n) self.old self.new) }
+        ensures done { OnOk result (PerformedOverAnyHost (bytes_of checked.now.opened) (Call a b n) self.old self.new) }
         ensures tripped { IfErr result (λ cause. (rule : List Port → List Port) (ports : List Port) → effect_in (bytes_of checked.now.opened) rule (Call a b n) self.old ports ≡ trips (cause_of cause)) }
         ensures unchanged { OnErr result (self.new ≡ self.old) }
     {
@@ -72,7 +72,7 @@ impl Machine {
 
     // Whether a RET ends the run: in routine 0, however many routines wait.
     fn ends_run(&self) -> bool
-        ensures { result ≡ ((running self.now.stack).routine == 0) }
+        ensures { result ≡ ((running_routine self.now.stack).routine == 0) }
     {
         self.stack.running().routine == 0
     }
@@ -80,7 +80,7 @@ impl Machine {
     // Returns the results from register a on, or ends the run.
     fn give_back(&mut self, checked: &Checked, a: u8)
         requires { Stands (bytes_of checked.now.opened) (Ret a) self.old }
-        ensures { Does (bytes_of checked.now.opened) (Ret a) self.old self.new }
+        ensures { PerformedOverAnyHost (bytes_of checked.now.opened) (Ret a) self.old self.new }
     {
         if self.ends_run() {
             self.state = State::Ended;
@@ -104,7 +104,7 @@ impl Machine {
         host: &mut H,
     ) -> Result<(), Cause>
         requires { Stands (bytes_of checked.now.opened) instr self.old }
-        ensures done { OnOk result (Makes (bytes_of checked.now.opened) (H.rule (H.base host.old)) instr self.old (H.ports host.old) self.new (H.ports host.new)) }
+        ensures done { OnOk result (Performed (bytes_of checked.now.opened) (H.rule (H.base host.old)) instr self.old (H.ports host.old) self.new (H.ports host.new)) }
         ensures tripped { IfErr result (λ cause. effect_in (bytes_of checked.now.opened) (H.rule (H.base host.old)) instr self.old (H.ports host.old) ≡ trips (cause_of cause)) }
         ensures unchanged { OnErr result (self.new ≡ self.old) }
         ensures rested { OnErr result (H.ports host.new ≡ H.ports host.old) }
@@ -215,7 +215,7 @@ impl Machine {
     /// One step of a running machine that has one: the instruction at which the running routine stands.
     pub fn step<H: Host>(&mut self, checked: &Checked, host: &mut H)
         requires running { self.old.state ≡ Running }
-        requires able { able (bytes_of checked.now.opened) (running self.old.stack) (waiting self.old.stack) ≡ true }
+        requires able { able (bytes_of checked.now.opened) (running_routine self.old.stack) (waiting self.old.stack) ≡ true }
         ensures step { stepped (bytes_of checked.now.opened) (H.rule (H.base host.old)) (world_of self.old (H.ports host.old)) ≡ Some (world_of self.new (H.ports host.new)) }
         ensures base { H.base host.new ≡ H.base host.old }
     {

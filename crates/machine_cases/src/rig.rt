@@ -2,7 +2,7 @@
 
 ghost use Rattle.std.specs.Prelude.{◌≡◌, true, []};
 ghost use Rattle.module.specs.Told.{bytes_of};
-ghost use Rattle.machine.specs.Sound.{sound};
+ghost use Rattle.machine.specs.Foretold.{as_foretold};
 ghost use Rattle.machine.specs.View.{world_of};
 
 use host::Host;
@@ -14,7 +14,7 @@ use module::checked::Checked;
 pub(crate) struct Rig<'a> {
     checked: Checked<'a>,
     machine: Machine,
-    ghost sound: { sound (bytes_of checked.opened) (world_of machine []) ≡ true },
+    ghost foretold: { as_foretold (bytes_of checked.opened) (world_of machine []) ≡ true },
 }
 
 impl<'a> Rig<'a> {

@@ -21,7 +21,7 @@ use Rattle.module.specs.Kept.{In, Reads, Writes, Kept, KeptEverywhere}
 use Rattle.module.specs.Laid.{Laid}
 use Rattle.module.specs.Layout.{routines, count, arguments, results, opening, row_at, instr}
 use Rattle.module.specs.Ready.{Everywhere}
-use Rattle.module.specs.Rules.{stacks, calls, access_in, both, fits, registers, variables, spares, constants, same_flag, same_shape, targets, closes, number, rules}
+use Rattle.module.specs.Rules.{stacks, calls, access_in, both, within_depth, registers, all_variables, spares, constants, same_flag, same_shape, targets, closes, rule_number, rules}
 use Rattle.module.specs.Shape.{shape}
 use Rattle.module.specs.Told.{bytes_of}
 use Rattle.module.specs.Verdict.{breach, tried}
@@ -29,17 +29,11 @@ use Rattle.module.proofs.Depths.{depth_kept}
 use Rattle.module.proofs.Opens.{laid, unless_ok}
 use Rattle.module.proofs.Passes.{everywhere}
 
--- the parts of acceptance
-parts : (bs : List ℕ) → accepted bs ≡ true → (octets bs ≡ true) × (is_ok (opening bs) ≡ true) × (is_ok (tried rules bs) ≡ true)
+-- the parts of acceptance that are used further
+parts : (bs : List ℕ) → accepted bs ≡ true → (is_ok (opening bs) ≡ true) × (is_ok (tried rules bs) ≡ true)
 parts bs h =
     let p = and_parts (octets bs) (is_ok (opening bs) && is_ok (tried rules bs)) h in
-    let q = and_parts (is_ok (opening bs)) (is_ok (tried rules bs)) p.1 in
-    (p.0, q.0, q.1)
-
-octets_at : (bs : List ℕ) → octets bs ≡ true → Octets bs
-octets_at [] h k = omega arith
-octets_at (b ∷ bs) h zero = ltb-true b 256 (and_parts (ltb b 256) (octets bs) h).0
-octets_at (b ∷ bs) h (suc k) = octets_at bs (and_parts (ltb b 256) (octets bs) h).1 k
+    and_parts (is_ok (opening bs)) (is_ok (tried rules bs)) p.1
 
 octets_from : (bs : List ℕ) → Octets bs → octets bs ≡ true
 octets_from [] h = refl
@@ -56,23 +50,20 @@ accepts_by (Err x) o e = tt
 pub accepts_checked : (m : Checked) → accepted (bytes_of m.opened) ≡ true
 accepts_checked m = accepts m.opened m.keeps
 
-pub accepts_octets : (bs : List ℕ) → accepted bs ≡ true → Octets bs
-accepts_octets bs h = octets_at bs (parts bs h).0
-
 pub accepts_laid : (bs : List ℕ) → accepted bs ≡ true → Laid bs
-accepts_laid bs h = laid bs (parts bs h).1
+accepts_laid bs h = laid bs (parts bs h).0
 
 -- all rules hold everywhere
 rules_hold : (bs : List ℕ) → is_ok (tried rules bs) ≡ true → (q : Rule) → Everywhere q bs
 rules_hold bs h =
     let n = routines bs in
-    let a = unless_ok (author_at (number Form)) (breach Form bs n 0) _ h in
-    let b = unless_ok (author_at (number Stack)) (breach Stack bs n 0) _ a.1 in
-    let c = unless_ok (author_at (number Callee)) (breach Callee bs n 0) _ b.1 in
-    let d = unless_ok (author_at (number Registers)) (breach Registers bs n 0) _ c.1 in
-    let e = unless_ok (author_at (number Constants)) (breach Constants bs n 0) _ d.1 in
-    let f = unless_ok (author_at (number Target)) (breach Target bs n 0) _ e.1 in
-    let g = unless_ok (author_at (number Ending)) (breach Ending bs n 0) _ f.1 in
+    let a = unless_ok (author_at (rule_number Form)) (breach Form bs n 0) _ h in
+    let b = unless_ok (author_at (rule_number Stack)) (breach Stack bs n 0) _ a.1 in
+    let c = unless_ok (author_at (rule_number Callee)) (breach Callee bs n 0) _ b.1 in
+    let d = unless_ok (author_at (rule_number Registers)) (breach Registers bs n 0) _ c.1 in
+    let e = unless_ok (author_at (rule_number Constants)) (breach Constants bs n 0) _ d.1 in
+    let f = unless_ok (author_at (rule_number Target)) (breach Target bs n 0) _ e.1 in
+    let g = unless_ok (author_at (rule_number Ending)) (breach Ending bs n 0) _ f.1 in
     λ q. elim q as (λ p. Everywhere p bs) [
       | Form ↦ everywhere Form bs a.0
       | Stack ↦ everywhere Stack bs b.0
@@ -84,7 +75,7 @@ rules_hold bs h =
     ]
 
 pub accepts_rules : (bs : List ℕ) → accepted bs ≡ true → (q : Rule) → Everywhere q bs
-accepts_rules bs h = rules_hold bs (parts bs h).2
+accepts_rules bs h = rules_hold bs (parts bs h).1
 
 -- an equation from the test of it
 flags_same : (f g : Bool) → same_flag f g ≡ true → f ≡ g
@@ -101,12 +92,12 @@ shapes_same (f ∷ s) (g ∷ t) h =
     λ i. flags_same f g p.0 i ∷ shapes_same s t p.1 i
 
 -- a variable of a span
-variable_at : (s : List Bool) (k : ℕ) → variables s ≡ true → k < length s → get_or s k true ≡ false
+variable_at : (s : List Bool) (k : ℕ) → all_variables s ≡ true → k < length s → get_or s k true ≡ false
 variable_at [] k h lt = absurd (omega arith)
-variable_at (f ∷ s) zero h lt = not-true f (and_parts (not f) (variables s) h).0
-variable_at (f ∷ s) (suc k) h lt = variable_at s k (and_parts (not f) (variables s) h).1 (omega arith)
+variable_at (f ∷ s) zero h lt = not-true f (and_parts (not f) (all_variables s) h).0
+variable_at (f ∷ s) (suc k) h lt = variable_at s k (and_parts (not f) (all_variables s) h).1 (omega arith)
 
-in_depth : (d : ℕ) (p : Span) (k : ℕ) → fits d p ≡ true → In p k → k < d
+in_depth : (d : ℕ) (p : Span) (k : ℕ) → within_depth d p ≡ true → In p k → k < d
 in_depth d p k h m = omega (arith, leb-true (p.first + p.len) d h, m.0, m.1)
 
 in_variables : (s : List Bool) (p : Span) (k : ℕ) → spares s p ≡ true → In p k → k < length s → get_or s k true ≡ false
@@ -144,11 +135,11 @@ module _ (bs : List ℕ) (ok : Laid bs) (all : (q : Rule) → Everywhere q bs) (
   close : closes bs r i x ≡ true
   close = at_x (closes bs r i) (all Ending r i lr li)
 
-  reads_fit : both (fits deep) (access_in bs r x).reads ≡ true
-  reads_fit = (and_parts (both (fits deep) (access_in bs r x).reads) (both (fits deep) (access_in bs r x).writes) fit).0
+  reads_fit : both (within_depth deep) (access_in bs r x).reads ≡ true
+  reads_fit = (and_parts (both (within_depth deep) (access_in bs r x).reads) (both (within_depth deep) (access_in bs r x).writes) fit).0
 
-  writes_fit : both (fits deep) (access_in bs r x).writes ≡ true
-  writes_fit = (and_parts (both (fits deep) (access_in bs r x).reads) (both (fits deep) (access_in bs r x).writes) fit).1
+  writes_fit : both (within_depth deep) (access_in bs r x).writes ≡ true
+  writes_fit = (and_parts (both (within_depth deep) (access_in bs r x).reads) (both (within_depth deep) (access_in bs r x).writes) fit).1
 
   -- of two spans that pass a test
   one_of : (f : Span → Bool) (P : Type 0) (p : Span × Span) (k : ℕ) → both f p ≡ true → ((q : Span) → f q ≡ true → In q k → P) → In p.0 k ⊎ In p.1 k → P
@@ -156,10 +147,10 @@ module _ (bs : List ℕ) (ok : Laid bs) (all : (q : Rule) → Everywhere q bs) (
       let t = and_parts (f p.0) (f p.1) h in ⊎_elim (g p.0 t.0) (g p.1 t.1)
 
   reads_in : (k : ℕ) → Reads bs r x k → k < deep
-  reads_in k = one_of (fits deep) (k < deep) (access_in bs r x).reads k reads_fit (λ q h. in_depth deep q k h)
+  reads_in k = one_of (within_depth deep) (k < deep) (access_in bs r x).reads k reads_fit (λ q h. in_depth deep q k h)
 
   writes_in : (k : ℕ) → Writes bs r x k → k < deep
-  writes_in k = one_of (fits deep) (k < deep) (access_in bs r x).writes k writes_fit (λ q h. in_depth deep q k h)
+  writes_in k = one_of (within_depth deep) (k < deep) (access_in bs r x).writes k writes_fit (λ q h. in_depth deep q k h)
 
   pub kept : Kept bs r i x
   kept = record {

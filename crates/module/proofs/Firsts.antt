@@ -32,10 +32,10 @@ module _ (test : ℕ → Bool) where
 
 -- the first failure from what a search over the numbers answers
 module _ (test : ℕ → Bool) where
-  all_pass : (left k : ℕ) → ((j : ℕ) → k ≤ j → j < k + left → test j ≡ true) → None ≡ first_failing test left k
+  pub all_pass : (left k : ℕ) → ((j : ℕ) → k ≤ j → j < k + left → test j ≡ true) → first_failing test left k ≡ None
   all_pass zero k ok = refl
   all_pass (suc left) k ok =
-      all_pass left (k + 1) (λ j g h. ok j (omega arith) (omega arith)) ∙ sym (cond-true _ _ _ (ok k (omega arith) (omega arith)))
+      cond-true _ _ _ (ok k (omega arith) (omega arith)) ∙ all_pass left (k + 1) (λ j g h. ok j (omega arith) (omega arith))
 
   one_fails : (left k i : ℕ) → k ≤ i → i < k + left → test i ≡ false → ((j : ℕ) → k ≤ j → j < i → test j ≡ true) → Some i ≡ first_failing test left k
   one_fails zero k i g h bad ok = absurd (omega arith)
@@ -48,7 +48,7 @@ module _ (test : ℕ → Bool) where
       (cases_order i k)
 
   pub first_found : (n : ℕ) (r : Option ℕ) → MatchOption r ((j : ℕ) → 0 ≤ j → j < n → test j ≡ true) (λ i. (0 ≤ i) × (i < n) × (test i ≡ false) × ((j : ℕ) → 0 ≤ j → j < i → test j ≡ true)) → r ≡ first_failing test n 0
-  first_found n None ok = all_pass n 0 (λ j g h. ok j g (omega arith))
+  first_found n None ok = sym (all_pass n 0 (λ j g h. ok j g (omega arith)))
   first_found n (Some i) found = one_fails n 0 i found.0 (omega (arith, found.1)) found.2 found.3
 
 -- tests that agree have the same first failure

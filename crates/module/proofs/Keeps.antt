@@ -9,8 +9,8 @@ use Rattle.module.specs.declared.rule.Rule.TheVariants.{Stack, Callee, Registers
 use Rattle.module.specs.declared.shape.ShapeRow.{ShapeRow}
 use Rattle.module.specs.First.{passes}
 use Rattle.module.specs.Layout.{count, instr}
-use Rattle.module.specs.Ready.{Within, Shallow}
-use Rattle.module.specs.Rules.{stacks, calls, access_in, both, fits, registers, spares, constants, targets, closes, holds, number}
+use Rattle.module.specs.Ready.{InTurn, Shallow}
+use Rattle.module.specs.Rules.{stacks, calls, access_in, both, within_depth, registers, spares, constants, targets, closes, holds, rule_number}
 use Rattle.module.specs.Shape.{shape, row_of}
 use Rattle.module.specs.Told.{bytes_in}
 use Rattle.module.specs.Verdict.{blank}
@@ -18,7 +18,7 @@ use Rattle.module.proofs.Depths.{depth_kept}
 use Rattle.module.proofs.Lookup.{rows_long, row_at_lem}
 use Rattle.module.proofs.Opens.{opened_laid, routine_in}
 
-module _ (q : Rule) (t : Routine) (rows : List ShapeRow) (w : Within q t rows) (i : ℕ) (lt : i < count (bytes_in t) t.index) (x : Instr) (e : Some x ≡ instr (bytes_in t) t.index i) where
+module _ (q : Rule) (t : Routine) (rows : List ShapeRow) (w : InTurn q t rows) (i : ℕ) (lt : i < count (bytes_in t) t.index) (x : Instr) (e : Some x ≡ instr (bytes_in t) t.index i) where
   abbrev bs : List ℕ
   bs = bytes_in t
 
@@ -35,18 +35,18 @@ module _ (q : Rule) (t : Routine) (rows : List ShapeRow) (w : Within q t rows) (
   depth_is = ap (λ y. y.depth) here_is
 
   -- rules that stand before
-  pub calls_here : number Callee < number q → calls bs x ≡ true
-  calls_here h = ap (passes (calls bs)) e ∙ w.ready Callee h r i (routine_in t) lt
+  pub calls_here : rule_number Callee < rule_number q → calls bs x ≡ true
+  calls_here h = ap (passes (calls bs)) e ∙ w.earlier Callee h r i (routine_in t) lt
 
-  pub shallow : number Stack < number q → Shallow bs r
-  shallow h j l = depth_kept (opened_laid t.module.now) r (routine_in t) (w.ready Stack h) j (omega arith)
+  pub shallow : rule_number Stack < rule_number q → Shallow bs r
+  shallow h j l = depth_kept (opened_laid t.module.now) r (routine_in t) (w.earlier Stack h) j (omega arith)
 
   pub stack_kept : (b : Bool) → b ≡ stacks here.depth x → b ≡ holds Stack bs r i
   stack_kept b p = p ∙ ap (λ d. stacks d x) depth_is ∙ ap (passes (stacks (length (shape bs r i)))) e
 
-  pub registers_kept : (b : Bool) (g : Access) → g ≡ access_in bs r x → b ≡ (both (fits here.depth) g.reads && both (fits here.depth) g.writes) → b ≡ holds Registers bs r i
+  pub registers_kept : (b : Bool) (g : Access) → g ≡ access_in bs r x → b ≡ (both (within_depth here.depth) g.reads && both (within_depth here.depth) g.writes) → b ≡ holds Registers bs r i
   registers_kept b g p s =
-      s ∙ (λ j. both (fits (depth_is j)) (p j).reads && both (fits (depth_is j)) (p j).writes)
+      s ∙ (λ j. both (within_depth (depth_is j)) (p j).reads && both (within_depth (depth_is j)) (p j).writes)
       ∙ ap (passes (registers bs r (length (shape bs r i)))) e
 
   pub constants_kept : (b : Bool) (g : Access) → g ≡ access_in bs r x → b ≡ both (spares (shape bs r i)) g.writes → b ≡ holds Constants bs r i

@@ -5,7 +5,7 @@ use lib.Arith.{digits_div, digits_mod}
 use Rattle.std.proofs.lemmas.Nat.{pow_pos, div-add-mod', mod_below}
 use Rattle.std.proofs.lemmas.Bool.{ne_eqb}
 use Rattle.std.proofs.lemmas.Bool.Decides.{nat_tests}
-use Rattle.module.specs.Rules.{variables}
+use Rattle.module.specs.Rules.{all_variables}
 use Rattle.module.specs.Shape.{mask}
 
 -- a flag as a bit
@@ -55,7 +55,7 @@ mask-drop (suc k) (f ∷ s) =
     mask-drop k s ∙ sym (halves f (mask s) (2 ^ k) (pow_pos k)).1 ∙ ap (λ x. mask (f ∷ s) / x) (sym (pow-succ' 2 k))
 
 -- no bit is set where no register is a constant
-pub mask-zero : (s : List Bool) → eqb (mask s) 0 ≡ variables s
+pub mask-zero : (s : List Bool) → eqb (mask s) 0 ≡ all_variables s
 mask-zero [] = refl
 mask-zero (true ∷ s) = ne_eqb _ _ (λ e. omega arith)
 mask-zero (false ∷ s) = same (mask s) ∙ mask-zero s

@@ -8,7 +8,7 @@ use Rattle.module.specs.declared.opened.Counts.{Counts}
 use Rattle.module.specs.declared.opened.Opened.{Opened}
 use Rattle.module.specs.declared.routine.Routine.{Routine}
 use Rattle.module.specs.First.{first_failing}
-use Rattle.module.specs.Laid.{Entered, Laid}
+use Rattle.module.specs.Laid.{EntryLaid, Laid}
 use Rattle.module.specs.Layout.{right as right_of}
 use Rattle.module.specs.Layout.{entry_of, routines, image_length, offset, count, arguments, results, before, length_given, counts, counts_right, entry_right, provided, unless, unless_wrong, opening}
 use Rattle.module.specs.Told.{bytes_of, bytes_in}
@@ -103,14 +103,14 @@ module _ (o : Opened) where
   pub opened_routines : o.counts.routines ≡ routines (bytes_of o)
   opened_routines = ap (λ x. x.routines) opened_counts
 
-  pub opened_entry : (r : ℕ) → r < o.counts.routines → Entered (bytes_of o) r
+  pub opened_entry : (r : ℕ) → r < o.counts.routines → EntryLaid (bytes_of o) r
   opened_entry r h = opened_laid.entry r (omega (arith, opened_routines))
 
 -- a routine of one
 pub routine_in : (t : Routine) → t.index < routines (bytes_in t)
 routine_in t = omega (arith, t.there, opened_routines t.module.now)
 
-pub routine_entered : (t : Routine) → Entered (bytes_in t) t.index
+pub routine_entered : (t : Routine) → EntryLaid (bytes_in t) t.index
 routine_entered t = opened_entry t.module.now t.index t.there
 
 -- an entry as it was read

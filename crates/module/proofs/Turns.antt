@@ -7,12 +7,12 @@ use Rattle.module.specs.declared.rule.Rule.{Rule}
 use Rattle.module.specs.declared.rule.Rule.TheVariants.{Form, Stack, Callee, Registers, Constants, Target, Ending}
 use Rattle.module.specs.Layout.{routines}
 use Rattle.module.specs.Ready.{Everywhere}
-use Rattle.module.specs.Rules.{number, rules}
+use Rattle.module.specs.Rules.{rule_number, rules}
 use Rattle.module.specs.Verdict.{breach, or_next, tried}
 use Rattle.module.proofs.Passes.{everywhere}
 
 -- a rule stands at its number
-rule_at : (q : Rule) → get_or rules (number q - 5) Form ≡ q
+rule_at : (q : Rule) → get_or rules (rule_number q - 5) Form ≡ q
 rule_at Form = refl
 rule_at Stack = refl
 rule_at Callee = refl
@@ -30,11 +30,11 @@ module _ (bs : List ℕ) (i : ℕ) (lt : i < 7) where
   rule_step o e = at_drop_more (λ qs. tried qs bs) rules i Form lt ∙ ap (λ x. or_next rule x (tried (drop (i + 1) rules) bs)) (sym e)
 
   -- one rule more holds everywhere
-  pub hold_more : ((q : Rule) → number q < 5 + i → Everywhere q bs) → None ≡ breach rule bs (routines bs) 0 → (q : Rule) → number q < 5 + (i + 1) → Everywhere q bs
+  pub hold_more : ((q : Rule) → rule_number q < 5 + i → Everywhere q bs) → None ≡ breach rule bs (routines bs) 0 → (q : Rule) → rule_number q < 5 + (i + 1) → Everywhere q bs
   hold_more held e q h =
       ⊎_elim
       (held q)
-      (λ g. let s : number q - 5 ≡ i = omega arith in
+      (λ g. let s : rule_number q - 5 ≡ i = omega arith in
       let same : rule ≡ q = ap (λ k. get_or rules k Form) (sym s) ∙ rule_at q in
       subst (λ p. Everywhere p bs) same (everywhere rule bs (sym e)))
-      (cases_lt (number q) (5 + i))
+      (cases_lt (rule_number q) (5 + i))

@@ -1,6 +1,7 @@
 -- Numbers in a list of bytes, lowest byte first. Past the end a byte reads as 0.
 use Rattle.std.specs.Prelude.{ℕ, ◌+◌, ◌*◌, ◌<◌, Bool, true, ◌&&◌, List, [], ◌∷◌, nat_lt, slice_index}
 
+-- the number in one, in two and in four bytes from a place on
 abbrev pub byte : List ℕ → ℕ → ℕ
 byte bs at = slice_index bs at
 

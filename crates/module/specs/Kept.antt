@@ -20,10 +20,11 @@ Reads bs r x k = In (access_in bs r x).reads.0 k ⊎ In (access_in bs r x).reads
 abbrev pub Writes : List ℕ → ℕ → Instr → ℕ → Type 0
 Writes bs r x k = In (access_in bs r x).writes.0 k ⊎ In (access_in bs r x).writes.1 k
 
+-- how many registers there are at instruction i of routine r
 abbrev pub depth : List ℕ → ℕ → ℕ → ℕ
 depth bs r i = length (shape bs r i)
 
--- instruction i of routine r is x
+-- what the seven rules ask of x as instruction i of routine r, and that there are no more than 32 registers then
 pub record Kept (bs : List ℕ) (r i : ℕ) (x : Instr) : Type 0 where
   pub formed : well_formed (row_at bs r i) ≡ true
   pub added : (x ≡ New) ⊎ ((n : ℕ) × (x ≡ Def n)) → depth bs r i ≤ 31
@@ -36,6 +37,6 @@ pub record Kept (bs : List ℕ) (r i : ℕ) (x : Instr) : Type 0 where
   pub closed : i + 1 ≡ count bs r → ends x ≡ true
   pub shallow : depth bs r i ≤ 32
 
--- every row is an instruction that keeps the rules
+-- every row is an instruction, and it keeps the rules
 abbrev pub KeptEverywhere : List ℕ → Type 0
 KeptEverywhere bs = (r i : ℕ) → r < routines bs → i < count bs r → (x : Instr) × (instr bs r i ≡ Some x) × Kept bs r i x

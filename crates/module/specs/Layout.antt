@@ -38,7 +38,7 @@ signature bs r = record { arguments = arguments bs r; results = results bs r }
 abbrev pub entry_of : List ℕ → ℕ → Entry
 entry_of bs r = record { count = count bs r; arguments = arguments bs r; results = results bs r }
 
--- the instructions of the routines before r
+-- how many instructions the routines before r have
 abbrev pub before : List ℕ → ℕ → ℕ
 before bs r = sum_to (count bs) r
 
@@ -46,6 +46,7 @@ before bs r = sum_to (count bs) r
 abbrev pub total : List ℕ → ℕ
 total bs = before bs (routines bs)
 
+-- N, D and T
 abbrev pub counts : List ℕ → Counts
 counts bs = record { routines = routines bs; image = image_length bs; total = total bs }
 
@@ -64,6 +65,7 @@ instr bs r i = decoded (row_at bs r i)
 abbrev pub admitted : ℕ → ℕ → Bool
 admitted n d = nat_le 1 n && (nat_le n 64 && nat_le d 4096)
 
+-- N and D may be those of a module
 abbrev pub counts_right : List ℕ → Bool
 counts_right bs = admitted (routines bs) (image_length bs)
 
@@ -76,7 +78,8 @@ right e r earlier =
     && ((not (r == 0) || (e.arguments == 0 && e.results == 0))
     && nat_le (earlier + e.count) 4096)))
 
--- Bodies stand in the order of their entries, without gaps.
+-- The entry of routine r may be its entry, and its body begins where the entries and the bodies before it end: bodies stand in the
+-- order of their entries, without gaps.
 abbrev pub entry_right : List ℕ → ℕ → Bool
 entry_right bs r = (offset bs r == 4 + 8 * routines bs + 8 * before bs r) && right (entry_of bs r) r (before bs r)
 

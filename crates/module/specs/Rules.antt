@@ -36,32 +36,36 @@ stacks depth Tick = true
 abbrev pub calls : List ℕ → Instr → Bool
 calls bs x = passes (λ n. nat_lt n (routines bs)) (callee x)
 
+-- What the called routine takes and gives; no registers, where none is called. Of a routine past the last it is what stands in the
+-- bytes at the place of its entry: no verdict shows it, as the rule of callees is tried before those of registers and constants.
 abbrev pub callee_signature : List ℕ → Option ℕ → Signature
 callee_signature bs None = record { arguments = 0; results = 0 }
 callee_signature bs (Some n) = signature bs n
 
--- what an instruction of routine r reads and writes
+-- what an instruction of routine r reads and writes, by the entry of r and that of the routine that it calls
 abbrev pub access_in : List ℕ → ℕ → Instr → Access
 access_in bs r x = access x (callee_signature bs (callee x)) (signature bs r)
 
+-- both spans pass the test
 abbrev pub both : (Span → Bool) → Span × Span → Bool
 both test p = test p.0 && test p.1
 
--- The registers of a span are below the depth. One register k is: k + 1 is at most the depth.
-abbrev pub fits : ℕ → Span → Bool
-fits depth p = nat_le (p.first + p.len) depth
+-- A span ends at the depth at most: its registers are below the depth, and one of no registers begins at the depth at most.
+abbrev pub within_depth : ℕ → Span → Bool
+within_depth depth p = nat_le (p.first + p.len) depth
 
--- Every register read or written is below the depth.
+-- Every span that is read or written lies within the depth.
 abbrev pub registers : List ℕ → ℕ → ℕ → Instr → Bool
-registers bs r depth x = both (fits depth) (access_in bs r x).reads && both (fits depth) (access_in bs r x).writes
+registers bs r depth x = both (within_depth depth) (access_in bs r x).reads && both (within_depth depth) (access_in bs r x).writes
 
-abbrev pub variables : List Bool → Bool
-variables [] = true
-variables (f ∷ s) = not f && variables s
+-- no register is a constant
+abbrev pub all_variables : List Bool → Bool
+all_variables [] = true
+all_variables (f ∷ s) = not f && all_variables s
 
--- The registers of a span are variables.
+-- No register of a span is a constant; one that is absent is none.
 abbrev pub spares : List Bool → Span → Bool
-spares s p = variables (take p.len (drop p.first s))
+spares s p = all_variables (take p.len (drop p.first s))
 
 -- No constant is written.
 abbrev pub constants : List ℕ → ℕ → List Bool → Instr → Bool
@@ -71,13 +75,14 @@ abbrev pub same_flag : Bool → Bool → Bool
 same_flag true g = g
 same_flag false g = not g
 
+-- the same registers, and the same of them constants
 abbrev pub same_shape : List Bool → List Bool → Bool
 same_shape [] [] = true
 same_shape [] (g ∷ t) = false
 same_shape (f ∷ s) [] = false
 same_shape (f ∷ s) (g ∷ t) = same_flag f g && same_shape s t
 
--- A branch stays in its routine, and goes where the shape is its own.
+-- A branch stays in its routine, and goes where the shape is that at the branch, s.
 abbrev pub targets : List ℕ → ℕ → List Bool → Instr → Bool
 targets bs r s x = passes (λ n. nat_lt n (count bs r) && same_shape (shape bs r n) s) (target x)
 
@@ -85,7 +90,7 @@ targets bs r s x = passes (λ n. nat_lt n (count bs r) && same_shape (shape bs r
 abbrev pub closes : List ℕ → ℕ → ℕ → Instr → Bool
 closes bs r i x = not (i + 1 == count bs r) || ends x
 
--- A row that is not well formed breaks the rule of form, and no other.
+-- Instruction i of routine r keeps the rule. A row that is not well formed breaks the rule of form, and no other.
 abbrev pub holds : Rule → List ℕ → ℕ → ℕ → Bool
 holds Form bs r i = well_formed (row_at bs r i)
 holds Stack bs r i = passes (stacks (length (shape bs r i))) (instr bs r i)
@@ -95,14 +100,16 @@ holds Constants bs r i = passes (constants bs r (shape bs r i)) (instr bs r i)
 holds Target bs r i = passes (targets bs r (shape bs r i)) (instr bs r i)
 holds Ending bs r i = passes (closes bs r i) (instr bs r i)
 
-abbrev pub number : Rule → ℕ
-number Form = 5
-number Stack = 6
-number Callee = 7
-number Registers = 8
-number Constants = 9
-number Target = 10
-number Ending = 11
+-- the number of a rule, which is that of the refusal of a module that breaks it
+abbrev pub rule_number : Rule → ℕ
+rule_number Form = 5
+rule_number Stack = 6
+rule_number Callee = 7
+rule_number Registers = 8
+rule_number Constants = 9
+rule_number Target = 10
+rule_number Ending = 11
 
+-- all of them, in the order in which they are tried
 abbrev pub rules : List Rule
 rules = Form ∷ Stack ∷ Callee ∷ Registers ∷ Constants ∷ Target ∷ Ending ∷ []

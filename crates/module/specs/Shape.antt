@@ -26,7 +26,7 @@ passed (Get a c) s = s
 passed (Put b c) s = s
 passed Tick s = s
 
--- a row that is no instruction passes the shape on
+-- the shape after a row: a row that is no instruction passes the shape on as it is
 abbrev pub after : Option Instr → List Bool → List Bool
 after None s = s
 after (Some x) s = passed x s
@@ -45,6 +45,7 @@ mask (f ∷ s) = cond f 1 0 + 2 * mask s
 abbrev pub row_of : List Bool → ShapeRow
 row_of s = record { depth = length s; mask = mask (take 32 s) }
 
+-- the row of the sheet for instruction i of routine r
 abbrev pub sheet_row : List ℕ → ℕ → ℕ → ShapeRow
 sheet_row bs r i = row_of (shape bs r i)
 

@@ -15,10 +15,10 @@ bytes_of o = o.bytes.now
 abbrev pub bytes_in : Routine → List ℕ
 bytes_in t = bytes_of t.module.now
 
--- an answer by whether there is one
+-- an answer without what it gives, with a refusal by its four numbers
 abbrev pub verdict_of : {X : Type 0} → Result X Refusal → Result (Unit {0}) Values
 verdict_of answer = result_map_both (λ _. tt) values_of answer
 
--- an answer of open, by the counts
-abbrev pub counted : Result Opened Refusal → Result Counts Values
-counted answer = result_map_both (λ (o : Opened). o.counts) values_of answer
+-- an answer of open, with the module by its counts and a refusal by its four numbers
+abbrev pub by_counts : Result Opened Refusal → Result Counts Values
+by_counts answer = result_map_both (λ (o : Opened). o.counts) values_of answer

@@ -5,7 +5,7 @@ ghost use Rattle.module.specs.Layout.{routines, total};
 ghost use Rattle.module.specs.Rules.{rules};
 ghost use Rattle.module.specs.Shape.{rows_before};
 ghost use Rattle.module.specs.Told.{bytes_of};
-ghost use Rattle.module.specs.Verdict.{tried, checking, marked, sheet_after};
+ghost use Rattle.module.specs.Verdict.{tried, checking, first_rows, sheet_after};
 
 use crate::opened::Opened;
 use crate::rule::Rule;
@@ -30,7 +30,7 @@ impl Opened<'_> {
     fn judge(&self, rows: &mut [ShapeRow]) -> Result<(), Refusal>
         requires { length rows.old ≡ total (bytes_of self.now) }
         ensures verdict { told result ≡ tried rules (bytes_of self.now) }
-        ensures rows { rows.new ≡ marked (bytes_of self.now) (tried rules (bytes_of self.now)) }
+        ensures rows { rows.new ≡ first_rows (bytes_of self.now) (tried rules (bytes_of self.now)) }
     {
         self.fill(rows);
         let verdict = self.try_rules(rows);

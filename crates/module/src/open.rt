@@ -3,7 +3,7 @@ ghost use Rattle.refusal.specs.Values.{told};
 ghost use Rattle.module.specs.Bytes.{Octets};
 ghost use Rattle.module.specs.First.{first_failing};
 ghost use Rattle.module.specs.Layout.{routines as routines_of, before, counts, entry_right, unless_wrong, opening};
-ghost use Rattle.module.specs.Told.{bytes_of, counted};
+ghost use Rattle.module.specs.Told.{bytes_of, by_counts};
 
 use crate::bytes::read_two;
 use crate::contents::{entry_of, offset_of};
@@ -36,7 +36,7 @@ fn sum_entries(bytes: &[u8], routines: usize) -> Result<usize, Refusal>
 
 /// Opens a module over the caller's bytes.
 pub fn open(bytes: &[u8]) -> Result<Opened<'_>, Refusal>
-    ensures verdict { counted result ≡ opening bytes.now }
+    ensures verdict { by_counts result ≡ opening bytes.now }
     ensures shows { IfOk result (λ o. bytes_of o ≡ bytes.now) }
     ensures counts { IfOk result (λ o. o.counts ≡ counts bytes.now) }
     ensures octets { IfOk result (λ o. Octets (bytes_of o)) }

@@ -1,6 +1,6 @@
 ghost use Rattle.std.specs.Prelude.{◌≡◌};
 ghost use Rattle.refusal.specs.Values.{author, values_of};
-ghost use Rattle.module.specs.Rules.{number};
+ghost use Rattle.module.specs.Rules.{rule_number};
 
 use refusal::{Place, Refusal};
 
@@ -30,7 +30,7 @@ impl Rule {
 
     // The refusal of a module that breaks the rule at a place.
     pub(crate) fn broken(self, place: Place) -> Refusal
-        ensures { values_of result ≡ author (number self) place.routine place.instruction }
+        ensures { values_of result ≡ author (rule_number self) place.routine place.instruction }
     {
         match self {
             Rule::Form => Refusal::Form(place),

@@ -1,8 +1,8 @@
 ghost use Rattle.std.specs.Prelude.{◌≡◌, ℕ, ◌+◌, ◌<◌, ◌≤◌, Bool, true, not, ◌&&◌, ◌||◌, List, length, ◌==◌};
 ghost use Rattle.isa.specs.Access.{callee, ends};
 ghost use Rattle.module.specs.Layout.{routines, count};
-ghost use Rattle.module.specs.Ready.{Ready, Within, Shallow};
-ghost use Rattle.module.specs.Rules.{stacks, calls, callee_signature, access_in, both, fits, spares, same_shape, targets, holds};
+ghost use Rattle.module.specs.Ready.{EarlierHold, InTurn, Shallow};
+ghost use Rattle.module.specs.Rules.{stacks, calls, callee_signature, access_in, both, within_depth, spares, targets, holds};
 ghost use Rattle.module.specs.Shape.{row_of, routine_rows, rows_before};
 ghost use Rattle.module.specs.Told.{bytes_in, bytes_of};
 ghost use Rattle.module.specs.Verdict.{breach_in, breach};
@@ -27,13 +27,13 @@ fn stack_holds(depth: u16, instr: Instr) -> bool
 }
 
 fn span_fits(depth: u16, span: Span) -> bool
-    ensures { result ≡ fits depth span }
+    ensures { result ≡ within_depth depth span }
 {
     u16::from(span.first) + u16::from(span.len) <= depth
 }
 
 fn registers_hold(depth: u16, access: Access) -> bool
-    ensures { result ≡ (both (fits depth) access.reads && both (fits depth) access.writes) }
+    ensures { result ≡ (both (within_depth depth) access.reads && both (within_depth depth) access.writes) }
 {
     let Access { reads, writes } = access;
     [reads.0, reads.1, writes.0, writes.1]
@@ -106,7 +106,7 @@ impl Routine<'_> {
     // Whether an instruction keeps a rule. One match names all seven: closures in their place would be the same list, in a
     // table that no function may hand out.
     fn keeps(&self, rule: Rule, rows: &[ShapeRow], i: usize) -> bool
-        requires within { Within rule self.now rows.now }
+        requires turn { InTurn rule self.now rows.now }
         requires index { i < count (bytes_in self.now) self.now.index }
         ensures { result ≡ holds rule (bytes_in self.now) self.now.index i }
     {
@@ -127,7 +127,7 @@ impl Routine<'_> {
 
     // The first instruction that breaks a rule.
     fn breach(&self, rule: Rule, rows: &[ShapeRow]) -> Option<usize>
-        requires { Within rule self.now rows.now }
+        requires { InTurn rule self.now rows.now }
         ensures { result ≡ breach_in rule (bytes_in self.now) self.now.index }
     {
         (0..rows.len()).find(|i| !self.keeps(rule, rows, *i))
@@ -137,7 +137,7 @@ impl Routine<'_> {
 impl Opened<'_> {
     // The first place that breaks a rule.
     pub(crate) fn breach(&self, rule: Rule, rows: &[ShapeRow]) -> Option<Place>
-        requires ready { Ready rule (bytes_of self.now) }
+        requires earlier { EarlierHold rule (bytes_of self.now) }
         requires filled { rows.now ≡ rows_before (bytes_of self.now) (routines (bytes_of self.now)) }
         ensures { result ≡ breach rule (bytes_of self.now) (routines (bytes_of self.now)) 0 }
     {

@@ -2,7 +2,7 @@ ghost use Rattle.std.specs.Prelude.{◌≡◌, ◌<◌, length};
 ghost use Rattle.refusal.specs.Values.{told};
 ghost use Rattle.module.specs.Layout.{routines, total};
 ghost use Rattle.module.specs.Told.{bytes_of};
-ghost use Rattle.module.specs.Unpack.{entry_of, body_row, entries as entries_of, rows as rows_of, image as image_of, unpacking, entries_after, rows_after};
+ghost use Rattle.module.specs.Unpack.{body_row, entries as entries_of, rows as rows_of, image as image_of, unpacking, entries_after, rows_after};
 
 use crate::checked::Checked;
 use crate::contents::row_from;

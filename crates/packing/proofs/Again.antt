@@ -11,15 +11,15 @@ use Rattle.module.specs.Kept.{KeptEverywhere}
 use Rattle.module.specs.Laid.{Laid}
 use Rattle.module.specs.Layout as layout
 use Rattle.module.specs.Unpack.{entries, rows, image}
-use Rattle.packing.specs.Pack.{counts_right, entry_right, formed, malformed, unless_malformed, size, packing, output_after}
-use Rattle.packing.specs.Packed.{entry_at, row_at, before, total}
+use Rattle.packing.specs.Pack.{counts_right, entry_right, formed, first_malformed, unless_malformed, size, packing, output_after}
+use Rattle.packing.specs.Packed.{nth_entry, nth_row, before, total}
 use Rattle.packing.proofs.Repack.{entries_long, rows_long, image_long, entry_is, row_is, before_is, repacked}
-use Rattle.packing.proofs.Shown.{first_all}
+use Rattle.module.proofs.Firsts.{all_pass}
 
 place_all : (test : ℕ → ℕ → Bool) (count : ℕ → ℕ) (left r : ℕ) → ((s i : ℕ) → s < r + left → i < count s → test s i ≡ true) → first_place test count left r ≡ None
 place_all test count zero r e = refl
 place_all test count (suc left) r e =
-    ap (λ o. or_later r o (first_place test count left (r + 1))) (first_all (test r) (count r) 0 (λ j h. e r j (omega arith) (omega arith)))
+    ap (λ o. or_later r o (first_place test count left (r + 1))) (all_pass (test r) (count r) 0 (λ j g h. e r j (omega arith) (omega arith)))
     ∙ place_all test count left (r + 1) (λ s i h g. e s i (omega arith) g)
 
 module _ (bs : List ℕ) (small : Octets bs) (ok : Laid bs) (kept : KeptEverywhere bs) where
@@ -40,24 +40,24 @@ module _ (bs : List ℕ) (small : Octets bs) (ok : Laid bs) (kept : KeptEverywhe
       (λ i. layout.right (entry_is bs small ok r h i) r (before_is bs small ok r (omega arith) i)) ∙ grind (arith, nat_tests)
 
   none_wrong : first_failing (entry_right (entries bs)) (length (entries bs)) 0 ≡ None
-  none_wrong = first_all (entry_right (entries bs)) (length (entries bs)) 0 (λ j h. entry_right_lem j (omega (arith, entries_long bs small ok)))
+  none_wrong = all_pass (entry_right (entries bs)) (length (entries bs)) 0 (λ j g h. entry_right_lem j (omega (arith, entries_long bs small ok)))
 
   total_is : total (entries bs) ≡ layout.total bs
   total_is = ap (before (entries bs)) (entries_long bs small ok) ∙ before_is bs small ok (layout.routines bs) (omega arith)
 
-  row_formed : (r i : ℕ) → r < layout.routines bs → i < (entry_at (entries bs) r).count → formed (entries bs) (rows bs) r i ≡ true
+  row_formed : (r i : ℕ) → r < layout.routines bs → i < (nth_entry (entries bs) r).count → formed (entries bs) (rows bs) r i ≡ true
   row_formed r i h g =
       let e = ok.entry r h in
       let li : i < layout.count bs r = omega (arith, ap (λ x. x.count) (entry_is bs small ok r h)) in
       let k = layout.before bs r + i in
       let at : 4 + 8 * layout.routines bs + 8 * k ≡ layout.offset bs r + 8 * i = omega (arith, e.placed) in
       let f = kept r i h li in
-      ap (λ x. well_formed (row_at (rows bs) (x + i))) (before_is bs small ok r (omega arith))
+      ap (λ x. well_formed (nth_row (rows bs) (x + i))) (before_is bs small ok r (omega arith))
       ∙ ap well_formed (row_is bs small ok k (omega (arith, li, e.inside)) ∙ ap (layout.row_from bs) at)
       ∙ f.2.formed
 
-  none_malformed : malformed (entries bs) (rows bs) ≡ None
-  none_malformed = place_all (formed (entries bs) (rows bs)) (λ r. (entry_at (entries bs) r).count) (length (entries bs)) 0 (λ s i h g. row_formed s i (omega (arith, entries_long bs small ok)) g)
+  none_malformed : first_malformed (entries bs) (rows bs) ≡ None
+  none_malformed = place_all (formed (entries bs) (rows bs)) (λ r. (nth_entry (entries bs) r).count) (length (entries bs)) 0 (λ s i h g. row_formed s i (omega (arith, entries_long bs small ok)) g)
 
   size_is : size (entries bs) (image bs) ≡ length bs
   size_is = (λ i. 4 + 8 * entries_long bs small ok i + 8 * total_is i + image_long bs small ok i) ∙ sym ok.long

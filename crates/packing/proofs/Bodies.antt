@@ -8,14 +8,14 @@ use Rattle.isa.specs.Form.{well_formed}
 use Rattle.module.specs.declared.entry.Entry.{Entry}
 use Rattle.module.specs.First.{first_failing}
 use Rattle.packing.specs.Pack.{formed}
-use Rattle.packing.specs.Packed.{entry_at, row_at, before, no_row}
+use Rattle.packing.specs.Packed.{nth_entry, nth_row, before, no_row}
 
 turned : {X : Type 0} (b : Bool) (x y : X) → cond (not b) x y ≡ cond b y x
 turned true x y = refl
 turned false x y = refl
 
 -- the first row that is not well formed, where test k is the test of row k
-position_first : (test : ℕ → Bool) (rs : List Row) (i : ℕ) → ((k : ℕ) → k < length rs → well_formed (row_at rs k) ≡ test (i + k))
+position_first : (test : ℕ → Bool) (rs : List Row) (i : ℕ) → ((k : ℕ) → k < length rs → well_formed (nth_row rs k) ≡ test (i + k))
     → position_from (λ row. not (well_formed row)) i rs ≡ first_failing test (length rs) i
 position_first test [] i e = refl
 position_first test (x ∷ rs) i e =
@@ -28,22 +28,22 @@ module _ (rs rest body : List Row) (start n : ℕ) (p : rest ≡ drop start rs) 
   body_long : length body ≡ n
   body_long = omega (arith, ap length p, ap length q, length-take n rest, length-drop start rs)
 
-  body_at : (k : ℕ) → k < n → row_at body k ≡ row_at rs (start + k)
-  body_at k h = ap (λ l. row_at l k) q ∙ get_or-take n rest k no_row h ∙ ap (λ l. row_at l k) p ∙ get_or-drop start rs k no_row
+  body_at : (k : ℕ) → k < n → nth_row body k ≡ nth_row rs (start + k)
+  body_at k h = ap (λ l. nth_row l k) q ∙ get_or-take n rest k no_row h ∙ ap (λ l. nth_row l k) p ∙ get_or-drop start rs k no_row
 
-  pub body_first : (es : List Entry) (r : ℕ) → start ≡ before es r → n ≡ (entry_at es r).count
-      → position_from (λ row. not (well_formed row)) 0 body ≡ first_failing (formed es rs r) (entry_at es r).count 0
+  pub body_first : (es : List Entry) (r : ℕ) → start ≡ before es r → n ≡ (nth_entry es r).count
+      → position_from (λ row. not (well_formed row)) 0 body ≡ first_failing (formed es rs r) (nth_entry es r).count 0
   body_first es r e c =
-      position_first (formed es rs r) body 0 (λ k h. let at : start + k ≡ before es r + (0 + k) = omega (arith, e) in ap well_formed (body_at k (omega (arith, body_long)) ∙ ap (row_at rs) at))
+      position_first (formed es rs r) body 0 (λ k h. let at : start + k ≡ before es r + (0 + k) = omega (arith, e) in ap well_formed (body_at k (omega (arith, body_long)) ∙ ap (nth_row rs) at))
       ∙ ap (λ m. first_failing (formed es rs r) m 0) (body_long ∙ c)
 
   -- words of the rows so far, and of a body after them
-  pub words_more : ((k : ℕ) → k < start → (row_at rs k).n < 2 ^ 32) → ((k : ℕ) → k < length body → (row_at body k).n < 2 ^ 32) → (k : ℕ) → k < start + n → (row_at rs k).n < 2 ^ 32
+  pub words_more : ((k : ℕ) → k < start → (nth_row rs k).n < 2 ^ 32) → ((k : ℕ) → k < length body → (nth_row body k).n < 2 ^ 32) → (k : ℕ) → k < start + n → (nth_row rs k).n < 2 ^ 32
   words_more below part k h =
       ⊎_elim
       (below k)
       (λ g.
       let j = k - start in
       let at : start + j ≡ k = omega arith in
-      subst (λ x. x.n < 2 ^ 32) (body_at j (omega arith) ∙ ap (row_at rs) at) (part j (omega (arith, body_long))))
+      subst (λ x. x.n < 2 ^ 32) (body_at j (omega arith) ∙ ap (nth_row rs) at) (part j (omega (arith, body_long))))
       (cases_lt k start)

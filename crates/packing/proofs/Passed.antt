@@ -10,8 +10,8 @@ use Rattle.module.specs.declared.entry.Entry.{Entry}
 use Rattle.module.specs.First.{first_failing}
 use Rattle.module.specs.Layout.{unless_wrong}
 use Rattle.module.proofs.Firsts.{first_none, place_none}
-use Rattle.packing.specs.Pack.{counts_right, entry_right, formed, malformed}
-use Rattle.packing.specs.Packed.{entry_at, row_at, before, total}
+use Rattle.packing.specs.Pack.{counts_right, entry_right, formed, first_malformed}
+use Rattle.packing.specs.Packed.{nth_entry, nth_row, before, total}
 use Rattle.packing.specs.Tested.{EntriesRight, RowsRight}
 
 pub entries_right : (es : List Entry) (rs : List Row) (im : List ℕ) → counts_right es im ≡ true → (t : ℕ)
@@ -33,7 +33,7 @@ record Placed (es : List Entry) (m k : ℕ) : Type 0 where
   pub routine : ℕ
   pub instruction : ℕ
   pub within : routine < m
-  pub inside : instruction < (entry_at es routine).count
+  pub inside : instruction < (nth_entry es routine).count
   pub at : before es routine + instruction ≡ k
 
 placed : (es : List Entry) (m k : ℕ) → k < before es m → Placed es m k
@@ -44,10 +44,10 @@ placed es (suc m) k h =
     (λ g. record { routine = m; instruction = k - before es m; within = omega arith; inside = omega arith; at = omega arith })
     (cases_lt k (before es m))
 
-pub rows_right : (es : List Entry) (rs : List Row) (im : List ℕ) → EntriesRight es rs im → None ≡ malformed es rs → ((k : ℕ) → k < length rs → (row_at rs k).n < 2 ^ 32) → RowsRight rs
+pub rows_right : (es : List Entry) (rs : List Row) (im : List ℕ) → EntriesRight es rs im → None ≡ first_malformed es rs → ((k : ℕ) → k < length rs → (nth_row rs k).n < 2 ^ 32) → RowsRight rs
 rows_right es rs im ok none words =
     record {
       formed = λ k h. let q = placed es (length es) k (omega (arith, ok.all)) in
-          subst (λ x. well_formed (row_at rs x) ≡ true) q.at (place_none (formed es rs) (λ r. (entry_at es r).count) (length es) 0 (sym none) q.routine q.instruction (omega arith) (omega (arith, q.within)) q.inside);
+          subst (λ x. well_formed (nth_row rs x) ≡ true) q.at (place_none (formed es rs) (λ r. (nth_entry es r).count) (length es) 0 (sym none) q.routine q.instruction (omega arith) (omega (arith, q.within)) q.inside);
       words = words;
     }

@@ -8,8 +8,8 @@ use Rattle.refusal.specs.Values.{Values, caller}
 use Rattle.isa.specs.declared.row.Row.{Row}
 use Rattle.module.specs.declared.entry.Entry.{Entry}
 use Rattle.module.specs.declared.shape.ShapeRow.{ShapeRow}
-use Rattle.module.specs.Layout.{routines, total, counts, provided, opening}
-use Rattle.module.specs.Unpack.{entry_of, body_row, roomy, unpacking, entries_after, rows_after}
+use Rattle.module.specs.Layout.{routines, entry_of, total, counts, provided, opening}
+use Rattle.module.specs.Unpack.{body_row, roomy, unpacking, entries_after, rows_after}
 use Rattle.module.specs.Verdict.{checking, sheet_after}
 use Rattle.packing.specs.Pack.{size, packing, output_after}
 use Rattle.packing.specs.Packed.{packed}

@@ -5,8 +5,9 @@ use Rattle.std.proofs.lemmas.List.{drop_more, drop-drop}
 use Rattle.module.specs.Bytes.{Octets, two, four}
 use Rattle.module.specs.Laid.{Laid}
 use Rattle.module.specs.Layout as layout
-use Rattle.module.specs.Unpack.{entry_of, body_row, entries, rows, image}
-use Rattle.packing.specs.Packed.{low2, low4, no_entry, no_row, entry_at, row_at, before, entry_bytes, row_bytes, blocks, packed}
+use Rattle.module.specs.Layout.{entry_of}
+use Rattle.module.specs.Unpack.{body_row, entries, rows, image}
+use Rattle.packing.specs.Packed.{low2, low4, no_entry, no_row, nth_entry, nth_row, before, entry_bytes, row_bytes, blocks, packed}
 use Rattle.packing.proofs.Digits.{low2_is, low4_is}
 
 -- blocks that are the parts of a list
@@ -79,10 +80,10 @@ module _ (bs : List ℕ) (small : Octets bs) where
     pub image_long : length (image bs) ≡ layout.image_length bs
     image_long = omega (arith, length-drop (4 + 8 * n + 8 * t) bs, ok.long)
 
-    pub entry_is : (r : ℕ) → r < n → entry_at (entries bs) r ≡ entry_of bs r
+    pub entry_is : (r : ℕ) → r < n → nth_entry (entries bs) r ≡ entry_of bs r
     entry_is r h = get_or-map-range_with_len (entry_of bs) 0 n r r no_entry h (omega arith)
 
-    pub row_is : (k : ℕ) → k < t → row_at (rows bs) k ≡ body_row bs k
+    pub row_is : (k : ℕ) → k < t → nth_row (rows bs) k ≡ body_row bs k
     row_is k h = get_or-map-range_with_len (body_row bs) 0 t k k no_row h (omega arith)
 
     pub before_is : (r : ℕ) → r ≤ n → before (entries bs) r ≡ layout.before bs r
@@ -107,11 +108,11 @@ module _ (bs : List ℕ) (small : Octets bs) where
         ∙ sym (ap (take 8) (drop-drop (8 * k) 4 bs)) in
         ap (blocks (entry_bytes (entries bs))) entries_long ∙ blocks_part (entry_bytes (entries bs)) (drop 4 bs) n each
 
-    bodies : blocks (λ k. row_bytes (row_at (rows bs) k)) (length (rows bs)) ≡ take (8 * t) (drop (4 + 8 * n) bs)
+    bodies : blocks (λ k. row_bytes (nth_row (rows bs) k)) (length (rows bs)) ≡ take (8 * t) (drop (4 + 8 * n) bs)
     bodies =
-        let each : (k : ℕ) → k < t → row_bytes (row_at (rows bs) k) ≡ take 8 (drop (8 * k) (drop (4 + 8 * n) bs))
+        let each : (k : ℕ) → k < t → row_bytes (nth_row (rows bs) k) ≡ take 8 (drop (8 * k) (drop (4 + 8 * n) bs))
         = λ k h. ap row_bytes (row_is k h) ∙ row_back (4 + 8 * n + 8 * k) (omega (arith, ok.long, h)) ∙ sym (ap (take 8) (drop-drop (8 * k) (4 + 8 * n) bs)) in
-        ap (blocks (λ k. row_bytes (row_at (rows bs) k))) rows_long ∙ blocks_part (λ k. row_bytes (row_at (rows bs) k)) (drop (4 + 8 * n) bs) t each
+        ap (blocks (λ k. row_bytes (nth_row (rows bs) k))) rows_long ∙ blocks_part (λ k. row_bytes (nth_row (rows bs) k)) (drop (4 + 8 * n) bs) t each
 
     pub repacked : packed (entries bs) (rows bs) (image bs) ≡ bs
     repacked =

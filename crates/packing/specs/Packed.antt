@@ -5,29 +5,30 @@ use Rattle.isa.specs.Form.{row}
 use Rattle.module.specs.declared.entry.Entry.{Entry}
 use Rattle.module.specs.First.{sum_to}
 
--- a number in two and in four bytes, lowest byte first
+-- the two and the four lowest bytes of a number, the lowest first
 abbrev pub low2 : ℕ → List ℕ
 low2 x = x % 256 ∷ x / 256 % 256 ∷ []
 
 abbrev pub low4 : ℕ → List ℕ
 low4 x = x % 256 ∷ x / 256 % 256 ∷ x / 65536 % 256 ∷ x / 16777216 % 256 ∷ []
 
--- what stands past the end of entries and of rows
+-- what the definitions read where there is no entry and no row; no answer shows it
 abbrev pub no_entry : Entry
 no_entry = record { count = 0; arguments = 0; results = 0 }
 
 abbrev pub no_row : Row
 no_row = row 0 0 0 0 0
 
-abbrev pub entry_at : List Entry → ℕ → Entry
-entry_at es r = slice_index_or es r no_entry
+-- entry r and row k of a list
+abbrev pub nth_entry : List Entry → ℕ → Entry
+nth_entry es r = slice_index_or es r no_entry
 
-abbrev pub row_at : List Row → ℕ → Row
-row_at rs k = slice_index_or rs k no_row
+abbrev pub nth_row : List Row → ℕ → Row
+nth_row rs k = slice_index_or rs k no_row
 
--- the instructions of the routines before r, and of all
+-- how many instructions the routines before r have, and all of them
 abbrev pub before : List Entry → ℕ → ℕ
-before es r = sum_to (λ k. (entry_at es k).count) r
+before es r = sum_to (λ k. (nth_entry es k).count) r
 
 abbrev pub total : List Entry → ℕ
 total es = before es (length es)
@@ -35,7 +36,7 @@ total es = before es (length es)
 -- the eight bytes of an entry, with the offset at which its body stands
 abbrev pub entry_bytes : List Entry → ℕ → List ℕ
 entry_bytes es r =
-    low4 (4 + 8 * length es + 8 * before es r) ++ (low2 (entry_at es r).count ++ ((entry_at es r).arguments ∷ (entry_at es r).results ∷ []))
+    low4 (4 + 8 * length es + 8 * before es r) ++ (low2 (nth_entry es r).count ++ ((nth_entry es r).arguments ∷ (nth_entry es r).results ∷ []))
 
 -- the eight bytes of an instruction
 abbrev pub row_bytes : Row → List ℕ
@@ -50,4 +51,4 @@ blocks f (suc n) = blocks f n ++ f n
 abbrev pub packed : List Entry → List Row → List ℕ → List ℕ
 packed es rs im =
     (low2 (length es) ++ low2 (length im))
-    ++ (blocks (entry_bytes es) (length es) ++ (blocks (λ k. row_bytes (row_at rs k)) (length rs) ++ im))
+    ++ (blocks (entry_bytes es) (length es) ++ (blocks (λ k. row_bytes (nth_row rs k)) (length rs) ++ im))

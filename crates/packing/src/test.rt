@@ -1,13 +1,13 @@
 // The tests of pack, in their order.
-ghost use Rattle.std.specs.Prelude.{◌≡◌, ℕ, ◌+◌, ◌^◌, ◌<◌, ◌≤◌, not, List, length, IfOk, None, Ok, Result};
+ghost use Rattle.std.specs.Prelude.{◌≡◌, ℕ, ◌^◌, ◌<◌, ◌≤◌, not, length, IfOk, None, Ok, Result};
 ghost use Rattle.std.specs.List.{position_from};
 ghost use Rattle.refusal.specs.Values.{Values, told};
 ghost use Rattle.isa.specs.Form.{well_formed};
 ghost use Rattle.module.specs.First.{first_failing};
 ghost use Rattle.module.specs.Layout.{unless_wrong};
 ghost use Rattle.std.specs.Result.{result_and};
-ghost use Rattle.packing.specs.Pack.{entry_right, malformed, unless_malformed, size, if_counted};
-ghost use Rattle.packing.specs.Packed.{entry_at, row_at, before, total};
+ghost use Rattle.packing.specs.Pack.{entry_right, first_malformed, unless_malformed, size, if_counted};
+ghost use Rattle.packing.specs.Packed.{nth_row, total};
 ghost use Rattle.packing.specs.Tested.{EntriesRight, RowsRight};
 
 use crate::parts::Parts;
@@ -58,7 +58,7 @@ fn is_formed(row: Row) -> bool
 // The first of some rows that is not well formed.
 fn malformed_in(rows: &[Row]) -> Option<usize>
     ensures first { result ≡ position_from (λ row. not (well_formed row)) 0 rows.now }
-    ensures words { result ≡ None → (k : ℕ) → k < length rows.now → (row_at rows.now k).n < 2 ^ 32 }
+    ensures words { result ≡ None → (k : ℕ) → k < length rows.now → (nth_row rows.now k).n < 2 ^ 32 }
 {
     rows.iter().position(|row| !is_formed(*row))
 }
@@ -101,8 +101,8 @@ impl<'a> Counted<'a> {
     // The first place whose row is not well formed.
     // As in module's breach: a function over closures for both was tried, and needs four requires where each has none or two.
     fn first_malformed(&self) -> Option<Place>
-        ensures first { result ≡ malformed self.now.parts.entries.now self.now.parts.rows.now }
-        ensures words { result ≡ None → (k : ℕ) → k < length self.now.parts.rows.now → (row_at self.now.parts.rows.now k).n < 2 ^ 32 }
+        ensures first { result ≡ first_malformed self.now.parts.entries.now self.now.parts.rows.now }
+        ensures words { result ≡ None → (k : ℕ) → k < length self.now.parts.rows.now → (nth_row self.now.parts.rows.now k).n < 2 ^ 32 }
     {
         let mut rest = self.parts.rows;
         let entries = self.parts.entries;
@@ -121,7 +121,7 @@ impl<'a> Counted<'a> {
 
     // The test of the rows.
     pub(crate) fn tested(self) -> Result<Tested<'a>, Refusal>
-        ensures verdict { (rest : Result ℕ Values) → result_and (told result) rest ≡ unless_malformed (malformed self.entry.parts.entries.now self.entry.parts.rows.now) rest }
+        ensures verdict { (rest : Result ℕ Values) → result_and (told result) rest ≡ unless_malformed (first_malformed self.entry.parts.entries.now self.entry.parts.rows.now) rest }
         ensures same { IfOk result (λ t. t.counted ≡ self.entry) }
     {
         if let Some(place) = self.first_malformed() {

@@ -8,7 +8,7 @@ use Rattle.refusal.specs.declared.Place.{Place}
 use Rattle.refusal.specs.declared.Refusal.{Refusal}
 use Rattle.refusal.specs.declared.Refusal.TheVariants.{Truncated, Counts, Entry, Length, Form, Stack, Callee, Register, Constant, Target, Ending, Sheet, Room, Fuel, Ended, Tripped, Running, Absent}
 
--- Routine and instruction are 0 where the refusal has no place.
+-- Routine and instruction are 0 where the refusal has no place; a wrong entry has its routine, and instruction 0.
 pub record Values : Type 0 where
   pub number : ℕ
   pub layer : ℕ
@@ -25,17 +25,19 @@ layer_number Host = 3
 abbrev pub placed : Option Place → Place
 placed place = unwrap_or place (record { routine = 0; instruction = 0 })
 
--- a refusal that the module's author causes
+-- a refusal that the module's author causes, of this number, at this routine and instruction
 abbrev pub author : ℕ → ℕ → ℕ → Values
 author number routine instruction = record { number = number; layer = layer_number Author; routine = routine; instruction = instruction }
 
+-- the same, at a place
 abbrev pub author_at : ℕ → Place → Values
 author_at number place = author number place.routine place.instruction
 
--- a refusal that the caller causes
+-- a refusal that the caller causes: it has no place
 abbrev pub caller : ℕ → Values
 caller number = record { number = number; layer = layer_number Caller; routine = 0; instruction = 0 }
 
+-- the four numbers of each refusal
 abbrev pub values_of : Refusal → Values
 values_of Truncated = author 1 0 0
 values_of Counts = author 2 0 0
@@ -56,6 +58,6 @@ values_of Tripped = caller 16
 values_of Running = caller 17
 values_of Absent = caller 18
 
--- an answer, with its refusal by the four numbers
+-- an answer, with a refusal by its four numbers
 abbrev pub told : {X : Type 0} → Result X Refusal → Result X Values
 told answer = result_map_both (λ x. x) values_of answer

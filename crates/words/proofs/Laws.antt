@@ -4,7 +4,7 @@ use lib.Signed.{quot_z}
 use Rattle.std.proofs.lemmas.Int.{ints}
 use Rattle.isa.specs.declared.instr.Kind.{Kind}
 use Rattle.isa.specs.declared.instr.Kind.TheVariants.{Unsigned, TowardsZero, Downwards}
-use Rattle.words.specs.Words.{upwards, downwards, negative, signed, word, read_as, Leaves}
+use Rattle.words.specs.Words.{upwards, downwards, negative, signed, word, read_as, RemainderLaw}
 use Rattle.words.proofs.Quotients.{signed_back}
 
 -- r is smaller than y, and is 0 or is negative as told
@@ -66,7 +66,7 @@ some_word (negsuc k) n = omega arith
 some_signed : (w : ℕ) → w < 2 ^ 32 → (w ≡ 0 → ⊥) → 0 < nat_abs (signed w)
 some_signed w h n = some_word (signed w) (λ e. n (sym (signed_back w h) ∙ e))
 
-pub leaves : (k : Kind) (b c : ℕ) → c < 2 ^ 32 → (c ≡ 0 → ⊥) → Leaves k (read_as k b) (read_as k c)
+pub leaves : (k : Kind) (b c : ℕ) → c < 2 ^ 32 → (c ≡ 0 → ⊥) → RemainderLaw k (read_as k b) (read_as k c)
 leaves Unsigned b c h n =
     let l = floored (pos b) (pos c) (omega arith) in
     record { smaller = l.0; sign = elim l.1 [ inl e ↦ ap negative e | inr e ↦ e ] }

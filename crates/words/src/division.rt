@@ -1,7 +1,7 @@
 ghost use Rattle.std.specs.Prelude.{◌≡◌, ◌<◌, ◌≢◌, int_div};
 ghost use Rattle.std.specs.Int.{w32};
 ghost use Rattle.std.proofs.Common.{of_z};
-ghost use Rattle.words.specs.Words.{word, downwards, read_as, quotient_of, divided, Leaves, DivisionExamples};
+ghost use Rattle.words.specs.Words.{word, downwards, read_as, quotient_of, divided, RemainderLaw, DivisionExamples};
 
 use isa::instr::{Kind, Part};
 
@@ -53,7 +53,7 @@ fn part_of(part: Part, kind: Kind, b: u32, c: u32) -> Option<u32>
 /// A part of b divided by c, or none if c is 0.
 pub fn divide(part: Part, kind: Kind, b: u32, c: u32) -> Option<u32>
     ensures value { result ≡ divided part kind b c }
-    ensures law { (c ≢ 0) → Leaves kind (read_as kind b) (read_as kind c) }
+    ensures law { (c ≢ 0) → RemainderLaw kind (read_as kind b) (read_as kind c) }
     ensures examples { DivisionExamples }
 {
     part_of(part, kind, b, c)

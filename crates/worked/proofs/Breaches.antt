@@ -9,7 +9,7 @@ use Rattle.isa.specs.Access.{target}
 use Rattle.module.specs.declared.rule.Rule.TheVariants.{Stack, Constants, Target}
 use Rattle.module.specs.First.{passes}
 use Rattle.module.specs.Layout.{count, instr}
-use Rattle.module.specs.Rules.{holds, stacks, constants, targets, same_shape, variables}
+use Rattle.module.specs.Rules.{holds, stacks, constants, targets, same_shape, all_variables}
 use Rattle.module.specs.Shape.{shape, passed, after as passing_on}
 
 -- rule 6
@@ -19,7 +19,7 @@ new_holds bs r i room e h = ap (passes (stacks (length (shape bs r i)))) e ∙ h
 
 -- rule 9
 
-spared : (s : List Bool) (a : ℕ) → get_or s a false ≡ true → variables (take 1 (drop a s)) ≡ false
+spared : (s : List Bool) (a : ℕ) → get_or s a false ≡ true → all_variables (take 1 (drop a s)) ≡ false
 spared [] a h = absurd (false≢true h)
 spared (f ∷ s) zero h = ap (λ g. not g && true) h
 spared (f ∷ s) (suc a) h = spared s a h
@@ -27,7 +27,7 @@ spared (f ∷ s) (suc a) h = spared s a h
 pub mov_breaks : (bs : List ℕ) (r i a b : ℕ) → instr bs r i ≡ Some (Mov a b) → get_or (shape bs r i) a false ≡ true → holds Constants bs r i ≡ false
 mov_breaks bs r i a b e h =
     ap (passes (constants bs r (shape bs r i))) e
-    ∙ ap (λ x. x && variables (take 0 (drop 0 (shape bs r i)))) (spared (shape bs r i) a h)
+    ∙ ap (λ x. x && all_variables (take 0 (drop 0 (shape bs r i)))) (spared (shape bs r i) a h)
 
 -- rule 10
 

@@ -9,9 +9,9 @@ use Rattle.module.specs.Layout.{provided}
 use Rattle.module.specs.Places.{inside, instr_at}
 use Rattle.module.specs.Shape.{shape, after as passing_on}
 use Rattle.machine.specs.Level.{value}
-use Rattle.machine.specs.World.{Phase, running, ended, tripped, World, able, after, effect, allowed, allowed_at, awaited, is_return, calls_routine, handed, entered, resumed, into, step, step_of}
+use Rattle.machine.specs.World.{Phase, running, ended, tripped, World, able, after, effect, allowed, allowed_at, awaited, is_return, calls_routine, handed, entered, resumed, into, step, step_in}
 use Rattle.drive.specs.declared.call.Call.TheVariants.{Restart}
-use Rattle.drive.specs.Calls.{Rule, Outcome, refusal, unless_refused, done, outcome}
+use Rattle.drive.specs.Calls.{TickRule, Outcome, refusal, unless_refused, done, outcome}
 use Rattle.drive.specs.View.{noted_all}
 use Rattle.worked.specs.Worked.{Worked}
 use Rattle.worked.proofs.Lengths.{other_refused}
@@ -37,11 +37,11 @@ no_entries running w o e = refl
 no_entries ended w o e = e
 no_entries (tripped t) w o e = e
 
-restart_enters_nothing : (bs : List ℕ) (rule : Rule) (w : World) → (outcome bs rule Restart w).entries ≡ []
+restart_enters_nothing : (bs : List ℕ) (rule : TickRule) (w : World) → (outcome bs rule Restart w).entries ≡ []
 restart_enters_nothing bs rule w = no_entries w.phase w (done bs rule Restart w) refl
 
 pub worked : Worked
-unfolding step step_of able after effect allowed allowed_at awaited is_return calls_routine handed entered resumed into instr_at inside value
+unfolding step step_in able after effect allowed allowed_at awaited is_return calls_routine handed entered resumed into instr_at inside value
 worked =
     record {
       sample_length = refl;

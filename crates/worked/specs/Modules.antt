@@ -34,13 +34,13 @@ sample_bytes = sample_ordering 176 4
 abbrev pub raised_bytes : List ℕ
 raised_bytes = sample_ordering 160 15
 
--- the module of one routine, which has these instructions, and no image
+-- the module of one routine, which has these instructions, and of no image
 abbrev pub program : List Instr → List ℕ
 program xs = packed (record { count = length xs; arguments = 0; results = 0 } ∷ []) (map encoded xs) []
 
--- a program that loads four bytes at n past the address b
-abbrev pub loading : ℕ → ℕ → List Instr
-loading b n = Def b ∷ New ∷ Load Four 1 0 n ∷ Ret 0 ∷ []
+-- the instructions of a program that loads the four bytes at the address b + n
+abbrev pub load_at : ℕ → ℕ → List Instr
+load_at b n = Def b ∷ New ∷ Load Four 1 0 n ∷ Ret 0 ∷ []
 
 -- what check answers of a program, over every sheet that is long enough
 abbrev pub Checks : List Instr → Result (Unit {0}) Values → Type 0

@@ -9,10 +9,10 @@ use Rattle.faults.specs.Faults.{FaultValues}
 use Rattle.machine.specs.Level.{Level}
 use Rattle.machine.specs.World.{Phase, here, able}
 use Rattle.drive.specs.declared.call.Call.TheVariants.{Grant}
-use Rattle.drive.specs.Log.{Log, new_log, log_after, answers, listed}
+use Rattle.drive.specs.Log.{Log, new_log, log_after, answers, fault_list}
 
--- a routine has come to the instruction x of a module, and has a step there while others wait
-pub record Reaches (bs : List ℕ) (x : Instr) (l : Level) (ls : List Level) : Type 0 where
+-- the routine l stands at the instruction x of a module, and has a step there while the routines ls wait
+pub record StandsAt (bs : List ℕ) (x : Instr) (l : Level) (ls : List Level) : Type 0 where
   pub stands : here bs l ≡ Some x
   pub able : able bs l ls ≡ true
 
@@ -21,18 +21,19 @@ pub record Reaches (bs : List ℕ) (x : Instr) (l : Level) (ls : List Level) : T
 abbrev pub passed_at : ℕ → ℕ → ℕ → Trip
 passed_at routine instruction address = record { cause = 2; layer = 2; routine = routine; instruction = instruction; detail = address }
 
--- what the log of a new drive of a module over a new axis answers to a grant of so much fuel, and what it is then
+-- what the log of a new drive of a module over a new axis answers to a grant of so much fuel
 abbrev pub granted : List ℕ → ℕ → List (Result (ℕ × Phase) Values)
 granted bs fuel = answers bs axis_rule (Grant fuel ∷ []) (new_log bs new_axis)
 
+-- and what the log is then
 abbrev pub log_granted : List ℕ → ℕ → Log
 log_granted bs fuel = log_after bs axis_rule (Grant fuel ∷ []) (new_log bs new_axis)
 
--- the grant is answered so, and leaves these ports and faults
+-- such a grant is answered so, and leaves these ports and faults
 pub record Grants (bs : List ℕ) (fuel : ℕ) (said : ℕ × Phase) (left : List Port) (list : List FaultValues) : Type 0 where
   pub answer : granted bs fuel ≡ Ok said ∷ []
   pub ports : (log_granted bs fuel).world.ports ≡ left
-  pub faults : listed (log_granted bs fuel).entries ≡ list
+  pub faults : fault_list (log_granted bs fuel).entries ≡ list
 
 -- the trip for an order of port 0 outside its limits, at instruction 2 of routine 0: cause 6 of layer 3, the host
 abbrev pub refused_at_2 : Trip

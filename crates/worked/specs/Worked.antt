@@ -21,11 +21,11 @@ use Rattle.faults.specs.Faults.{FaultValues}
 use Rattle.machine.specs.Level.{Level, value, wrote}
 use Rattle.machine.specs.World.{running, ended, tripped, World, world, step}
 use Rattle.drive.specs.declared.call.Call.TheVariants.{Restart}
-use Rattle.drive.specs.Calls.{Rule, outcome}
+use Rattle.drive.specs.Calls.{TickRule, outcome}
 use Rattle.drive.specs.Log.{Log, after_call}
 use Rattle.drive.specs.View.{noted_all}
-use Rattle.worked.specs.Modules.{contents, sample_bytes, raised_bytes, program, loading, Checks}
-use Rattle.worked.specs.Runs.{Reaches, passed_at, refused_at_2, granted, Grants}
+use Rattle.worked.specs.Modules.{contents, sample_bytes, raised_bytes, program, load_at, Checks}
+use Rattle.worked.specs.Runs.{StandsAt, passed_at, refused_at_2, granted, Grants}
 
 pub record Worked : Type 0 where
   -- The sample has 60 bytes: NEW, DEF 1200, PUT 1 to port 0, TICK, GET 0 from port 2, RET 0.
@@ -61,31 +61,31 @@ pub record Worked : Type 0 where
   pub quotients : DivisionExamples
   -- A load of width 4 works at 4,092 and at each address below; from 4,093 on it trips with cause 2 and the address as its
   -- detail, and all else is as before.
-  pub load_to_4092 : (bs : List ℕ) (rule : Rule) (a b n : ℕ) (l : Level) (ls : List Level) (memory : List ℕ) (ports : List Port)
-      → Reaches bs (Load Four a b n) l ls
+  pub load_to_4092 : (bs : List ℕ) (rule : TickRule) (a b n : ℕ) (l : Level) (ls : List Level) (memory : List ℕ) (ports : List Port)
+      → StandsAt bs (Load Four a b n) l ls
       → value l b + n ≤ 4092
       → step bs rule (world running (l ∷ ls) memory ports) ≡ Some (world running (wrote l a (four memory (value l b + n)) ∷ ls) memory ports)
-  pub load_from_4093 : (bs : List ℕ) (rule : Rule) (a b n : ℕ) (l : Level) (ls : List Level) (memory : List ℕ) (ports : List Port)
-      → Reaches bs (Load Four a b n) l ls
+  pub load_from_4093 : (bs : List ℕ) (rule : TickRule) (a b n : ℕ) (l : Level) (ls : List Level) (memory : List ℕ) (ports : List Port)
+      → StandsAt bs (Load Four a b n) l ls
       → 4093 ≤ value l b + n
       → step bs rule (world running (l ∷ ls) memory ports) ≡ Some (world (tripped (passed_at l.routine l.pc (value l b + n))) (l ∷ ls) memory ports)
   -- 4294967295 + 1 is address 4294967296, and not 0: a load there trips, and so does a store, of any width.
-  pub load_not_wrapped : (bs : List ℕ) (rule : Rule) (w : Width) (a b : ℕ) (l : Level) (ls : List Level) (memory : List ℕ) (ports : List Port)
-      → Reaches bs (Load w a b 1) l ls
+  pub load_not_wrapped : (bs : List ℕ) (rule : TickRule) (w : Width) (a b : ℕ) (l : Level) (ls : List Level) (memory : List ℕ) (ports : List Port)
+      → StandsAt bs (Load w a b 1) l ls
       → value l b ≡ 4294967295
       → step bs rule (world running (l ∷ ls) memory ports) ≡ Some (world (tripped (passed_at l.routine l.pc 4294967296)) (l ∷ ls) memory ports)
-  pub store_not_wrapped : (bs : List ℕ) (rule : Rule) (w : Width) (a b : ℕ) (l : Level) (ls : List Level) (memory : List ℕ) (ports : List Port)
-      → Reaches bs (Store w a b 1) l ls
+  pub store_not_wrapped : (bs : List ℕ) (rule : TickRule) (w : Width) (a b : ℕ) (l : Level) (ls : List Level) (memory : List ℕ) (ports : List Port)
+      → StandsAt bs (Store w a b 1) l ls
       → value l b ≡ 4294967295
       → step bs rule (world running (l ∷ ls) memory ports) ≡ Some (world (tripped (passed_at l.routine l.pc 4294967296)) (l ∷ ls) memory ports)
   -- Check accepts three modules that load there, and granted 10,000 over a new axis the one that loads at 4,092 ends after its
   -- four steps, and those that load at 4,093 and at 4294967296 trip at the load.
-  pub load_passes : Checks (loading 4092 0) (Ok tt)
-  pub load_past_passes : Checks (loading 4093 0) (Ok tt)
-  pub load_not_wrapped_passes : Checks (loading 4294967295 1) (Ok tt)
-  pub load_run : granted (program (loading 4092 0)) 10000 ≡ Ok (4, ended) ∷ []
-  pub load_run_past : granted (program (loading 4093 0)) 10000 ≡ Ok (3, tripped (passed_at 0 2 4093)) ∷ []
-  pub load_run_not_wrapped : granted (program (loading 4294967295 1)) 10000 ≡ Ok (3, tripped (passed_at 0 2 4294967296)) ∷ []
+  pub load_passes : Checks (load_at 4092 0) (Ok tt)
+  pub load_past_passes : Checks (load_at 4093 0) (Ok tt)
+  pub load_not_wrapped_passes : Checks (load_at 4294967295 1) (Ok tt)
+  pub load_run : granted (program (load_at 4092 0)) 10000 ≡ Ok (4, ended) ∷ []
+  pub load_run_past : granted (program (load_at 4093 0)) 10000 ≡ Ok (3, tripped (passed_at 0 2 4093)) ∷ []
+  pub load_run_not_wrapped : granted (program (load_at 4294967295 1)) 10000 ≡ Ok (3, tripped (passed_at 0 2 4294967296)) ∷ []
   -- 2147483648 by SRA 32 is 4294967295, and by SRL 32 it is 0.
   pub sra_32 : calculated Sra 2147483648 32 ≡ 4294967295
   pub srl_32 : calculated Srl 2147483648 32 ≡ 0
@@ -109,6 +109,6 @@ pub record Worked : Type 0 where
   pub shape_after_bal : (bs : List ℕ) (r i n : ℕ) → instr bs r i ≡ Some (Bal n) → shape bs r (suc i) ≡ shape bs r i
   pub past_ret : Checks (New ∷ Ret 0 ∷ Mov 0 0 ∷ Ret 0 ∷ []) (Ok tt)
   -- A restart enters nothing: it keeps the entries of every log, and every list of faults.
-  pub restart_enters_nothing : (bs : List ℕ) (rule : Rule) (w : World) → (outcome bs rule Restart w).entries ≡ []
-  pub restart_keeps_entries : (bs : List ℕ) (rule : Rule) (l : Log) → (after_call bs rule Restart l).entries ≡ l.entries
-  pub restart_keeps_faults : (bs : List ℕ) (rule : Rule) (w : World) (faults : List FaultValues) → noted_all faults (outcome bs rule Restart w).entries ≡ faults
+  pub restart_enters_nothing : (bs : List ℕ) (rule : TickRule) (w : World) → (outcome bs rule Restart w).entries ≡ []
+  pub restart_keeps_entries : (bs : List ℕ) (rule : TickRule) (l : Log) → (after_call bs rule Restart l).entries ≡ l.entries
+  pub restart_keeps_faults : (bs : List ℕ) (rule : TickRule) (w : World) (faults : List FaultValues) → noted_all faults (outcome bs rule Restart w).entries ≡ faults

@@ -1,10 +1,10 @@
 use Rattle.std.proofs.Common.{◌≡◌, ℕ, List, [], ◌∷◌, ◌++◌, None, IfOk, string_bytes, ap, ◌∙◌, subst}
 use Rattle.module.specs.Told.{bytes_of}
-use Rattle.machine.specs.Sound.{begun}
+use Rattle.machine.specs.Foretold.{begun}
 use Rattle.machine.specs.World.{World}
 use Rattle.drive.specs.declared.call.Call.TheVariants.{Grant}
 use Rattle.drive.specs.Calls.{outcome}
-use Rattle.drive.specs.Log.{Log, new_log, log_after, listed}
+use Rattle.drive.specs.Log.{Log, new_log, log_after, fault_list}
 use Rattle.drive.specs.View.{world_in, faults_in, by_values}
 use Rattle.bench.specs.Measured.{run_text}
 use Rattle.bench.specs.Text.{line, answer_text, port_lines, fault_lines}
@@ -29,7 +29,7 @@ returns g c =
     let answered : string_bytes c.writeln.new.self ≡ before ++ line (answer_text said) = c.in_ok-writeln.ensures.bytes in
     let world : world_in drive last ≡ log.world = logged.world in
     let ports : last ≡ log.world.ports = ports_in drive last ∙ ap (λ (w : World). w.ports) world in
-    let faults : faults_in drive ≡ listed log.entries = logged.faults in
+    let faults : faults_in drive ≡ fault_list log.entries = logged.faults in
     let whole
     : string_bytes c.add_ports.new.text ++ fault_lines (faults_in drive) ≡ before ++ run_text bs rule first (c.args.call ∷ [])
     = ap (λ text. text ++ fault_lines (faults_in drive)) (c.in_ok-add_ports.ensures ∙ ap (λ text. text ++ port_lines 0 last) answered)

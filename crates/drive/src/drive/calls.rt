@@ -3,9 +3,9 @@ ghost use Rattle.std.specs.Prelude.{◌≡◌, List, Ok};
 ghost use Rattle.host.specs.declared.port.Port.{Port};
 ghost use Rattle.module.specs.Told.{bytes_of};
 ghost use Rattle.machine.specs.declared.machine.State.TheVariants.{Running};
-ghost use Rattle.machine.specs.Sound.{begun};
+ghost use Rattle.machine.specs.Foretold.{begun};
 ghost use Rattle.drive.specs.declared.call.Call.TheVariants.{Grant, Restart, PowerCycle};
-ghost use Rattle.drive.specs.Calls.{Rule, is_fuel};
+ghost use Rattle.drive.specs.Calls.{TickRule, is_fuel};
 ghost use Rattle.drive.specs.Law.{New};
 ghost use Rattle.drive.specs.View.{module_of, world_in, faults_in, by_values, Called};
 
@@ -76,7 +76,7 @@ impl<'a> Drive<'a> {
 
     /// Begins the run again, if it has ended or tripped. The faults stay, and no host is touched.
     pub fn restart(&mut self) -> Answer
-        ensures { (rule : Rule) (ports : List Port) → Called rule Restart self.old ports (by_values result) self.new ports }
+        ensures { (rule : TickRule) (ports : List Port) → Called rule Restart self.old ports (by_values result) self.new ports }
     {
         // A call wants a host: one without ports does.
         self.call(&mut TableHost::new(&mut []), Call::Restart)

@@ -6,7 +6,7 @@ use Rattle.module.specs.Told.{bytes_of}
 use Rattle.machine.specs.View.{world_of}
 use Rattle.machine.specs.World.{Phase, World}
 use Rattle.drive.specs.declared.drive.Drive.{Drive}
-use Rattle.drive.specs.Log.{Log, new_log, log_after, answers, listed}
+use Rattle.drive.specs.Log.{Log, new_log, log_after, answers, fault_list}
 use Rattle.drive.specs.View.{world_in, faults_in, call_of}
 use Rattle.engine.specs.Fields.{fields_bytes, answer_fields, said_fields}
 use Rattle.engine.specs.Whole.{world_fields, port_fields}
@@ -45,9 +45,9 @@ returns-clause-text g c =
     let e = c.add_ports.new.text.items in
     let answered = ap (λ said. fields_bytes (flat_map said_fields said)) logged.answered ∙ ap fields_bytes (all_said said) in
     let world : world_in drive last ≡ log.world = logged.world in
-    let faults : faults_in drive ≡ listed log.entries = logged.faults in
+    let faults : faults_in drive ≡ fault_list log.entries = logged.faults in
     let stood = ap (λ w. fields_bytes (world_fields w (faults_in drive))) world ∙ ap (λ fs. fields_bytes (world_fields log.world fs)) faults in
     let ports = ap (λ ps. fields_bytes (port_fields ps)) (ports_in drive last ∙ ap (λ (w : World). w.ports) world) in
-    both_fields a b e (flat_map answer_fields said) (world_fields log.world (listed log.entries) ++ port_fields log.world.ports)
+    both_fields a b e (flat_map answer_fields said) (world_fields log.world (fault_list log.entries) ++ port_fields log.world.ports)
     (same _ _ _ _ c.add_answers.ensures answered)
-    (both_fields b d e (world_fields log.world (listed log.entries)) (port_fields log.world.ports) (same _ _ _ _ (c.add_drive.ensures last) stood) (same _ _ _ _ c.add_ports.ensures ports))
+    (both_fields b d e (world_fields log.world (fault_list log.entries)) (port_fields log.world.ports) (same _ _ _ _ (c.add_drive.ensures last) stood) (same _ _ _ _ c.add_ports.ensures ports))

@@ -7,10 +7,10 @@ returns c =
     let old = c.args.text.now.items in
     let bs = c.args.bytes.now in
     let len : c.len-left.result ≡ length old = c.len-left.ensures.value in
-    let part : c.first.result.now ≡ take (32768 - length old) bs = c.first.ensures ∙ ap (λ n. take (32768 - n) bs) len in
-    let count = length-take (32768 - length old) bs in
-    let cut : length c.first.result.now ≡ length (take (32768 - length old) bs) = ap length part in
-    let fits : length old + length c.first.result.now ≤ 32768 = omega arith in
+    let part : c.first.result.now ≡ take (40960 - length old) bs = c.first.ensures ∙ ap (λ n. take (40960 - n) bs) len in
+    let count = length-take (40960 - length old) bs in
+    let cut : length c.first.result.now ≡ length (take (40960 - length old) bs) = ap length part in
+    let fits : length old + length c.first.result.now ≤ 40960 = omega arith in
     succeeded c.try_extend_from_slice-fits.result _ (c.try_extend_from_slice-fits.ensures.variant.1 fits) c.try_extend_from_slice-fits.ensures.ok
     ∙ ap (λ l. old ++ l) part
     ∙ as_fits old bs (omega arith)

@@ -2,7 +2,7 @@ use Rattle.std.proofs.Common.{◌≡◌, Bool, true, false, ◌&&◌, [], ◌∷
 use borrow.Author.Tests.{tests}
 use Rattle.std.proofs.lemmas.Iterator.{YieldsList-from_slice}
 use Rattle.std.proofs.lemmas.Iterator.Search.{all_from_yields_List}
-use Rattle.module.specs.Rules.{fits}
+use Rattle.module.specs.Rules.{within_depth}
 use Rattle.module.proofs.rules.registers_hold.Goals as goal
 
 four_hold : (a b c d : Bool) → (a && (b && (c && (d && true)))) ≡ ((a && b) && (c && d))
@@ -16,6 +16,6 @@ pub returns : goal.returns
 returns c =
     let a = c.args.access in
     let all = a.reads.0 ∷ a.reads.1 ∷ a.writes.0 ∷ a.writes.1 ∷ [] in
-    let test = fits c.args.depth in
+    let test = within_depth c.args.depth in
     all_from_yields_List test _ _ _ c.all.ensures.ran (YieldsList-from_slice all c.iter.ensures.rest) (λ x b q k. search (rules, tests))
     ∙ four_hold (test a.reads.0) (test a.reads.1) (test a.writes.0) (test a.writes.1)

@@ -3,17 +3,17 @@ use Rattle.std.specs.Option.{unwrap_or}
 use Rattle.machine.specs.View.{phase_of, world_of}
 use Rattle.drive.specs.Calls.{trips_of}
 use Rattle.drive.specs.View.{world_in, faults_in, noted_all}
-use Rattle.drive.proofs.Stepping.{can_step, still_sound, no_trip}
+use Rattle.drive.proofs.Stepping.{can_step, still_foretold, no_trip}
 use Rattle.drive.proofs.drive.Drive.advance.Goals as goal
 
 pub step-requires-clause-able : goal.step-requires-clause-able
 step-requires-clause-able g c = can_step c.args.self.now c.requires
 
 pub invariant_of-self : goal.invariant_of-self
-invariant_of-self g c = record { sound = still_sound c.args.self.now _ _ _ c.step.new.self c.requires c.step.ensures.step }
+invariant_of-self g c = record { foretold = still_foretold c.args.self.now _ _ _ c.step.new.self c.requires c.step.ensures.step }
 
 pub invariant_of-self-in_default : goal.invariant_of-self-in_default
-invariant_of-self-in_default g c = record { sound = still_sound c.args.self.now _ _ _ c.step.new.self c.requires c.step.ensures.step }
+invariant_of-self-in_default g c = record { foretold = still_foretold c.args.self.now _ _ _ c.step.new.self c.requires c.step.ensures.step }
 
 pub returns-in-Tripped-clause-faults : goal.returns-in-Tripped-clause-faults
 unfolding world_of

@@ -6,7 +6,7 @@ use Rattle.module.specs.Layout.{routines, signature}
 use Rattle.module.specs.Told.{bytes_of}
 use Rattle.module.proofs.At.{a_signature}
 use Rattle.machine.specs.Level.{level, copied}
-use Rattle.machine.specs.Nested.{running, waiting}
+use Rattle.machine.specs.Nested.{running_routine, waiting}
 use Rattle.machine.specs.World.{effect, entered}
 use Rattle.machine.proofs.Frames.{few_waiting}
 use Rattle.machine.proofs.Legal.{stands_ready}
@@ -45,6 +45,6 @@ returns-clause-done c = λ rule ports.
     let r = stands_ready c.args.checked.now c.args.self.now _ c.requires.able c.requires.stands refl in
     let given : Some c.unwrap-signature.result ≡ Some (signature bs c.args.n) = sym c.unwrap-signature.ensures ∙ c.signature.ensures ∙ a_signature bs c.args.n (ltb-true c.args.n (routines bs) r.legal.called) in
     let told : c.unwrap-signature.result ≡ signature bs c.args.n = cc in
-    let begun = c.enter.ensures.running ∙ ap (λ (x : Signature). level c.args.n 0 (copied (running s).registers c.args.b x.arguments)) told in
+    let begun = c.enter.ensures.running ∙ ap (λ (x : Signature). level c.args.n 0 (copied (running_routine s).registers c.args.b x.arguments)) told in
     let room : n < 31 = omega (arith, few_waiting s, c.callers.ensures, c.if-callers.false) in
     went c.requires.running refl (cond-true (ltb n 31) _ _ (lt-ltb n 31 room)) begun c.enter.ensures.waiting refl refl

@@ -12,7 +12,7 @@ use Rattle.module.proofs.Accepts.{accepts_checked}
 use Rattle.module.proofs.At.{a_signature}
 use Rattle.machine.specs.declared.machine.Machine.{Machine}
 use Rattle.machine.specs.Level.{Level, onward, given, values_from}
-use Rattle.machine.specs.Nested.{running, waiting, first_of}
+use Rattle.machine.specs.Nested.{running_routine, waiting, newest_of}
 use Rattle.machine.specs.World.{able, effect, handed, resumed, into, here}
 use Rattle.machine.proofs.Legal.{Ready, Waits, stands_ready, returning}
 use Rattle.machine.proofs.Frames.{split_first}
@@ -20,30 +20,30 @@ use Rattle.machine.proofs.Steps.{went, has_ended}
 use Rattle.machine.proofs.machine.Machine.give_back.Goals as goal
 
 -- a routine other than 0 that stands at its RET
-module _ (checked : Checked) (m : Machine) (a : ℕ) (can : able (bytes_of checked.opened) (running m.stack) (waiting m.stack) ≡ true)
-    (stands : here (bytes_of checked.opened) (running m.stack) ≡ Some (Ret a)) where
-  ret : Ready (bytes_of checked.opened) (running m.stack) (Ret a)
+module _ (checked : Checked) (m : Machine) (a : ℕ) (can : able (bytes_of checked.opened) (running_routine m.stack) (waiting m.stack) ≡ true)
+    (stands : here (bytes_of checked.opened) (running_routine m.stack) ≡ Some (Ret a)) where
+  ret : Ready (bytes_of checked.opened) (running_routine m.stack) (Ret a)
   ret = stands_ready checked m (Ret a) can stands refl
 
   -- how many results it gives
-  count : (s : Signature) → Some s ≡ signature_at (bytes_of checked.opened) (running m.stack).routine → s.results ≡ results (bytes_of checked.opened) (running m.stack).routine
+  count : (s : Signature) → Some s ≡ signature_at (bytes_of checked.opened) (running_routine m.stack).routine → s.results ≡ results (bytes_of checked.opened) (running_routine m.stack).routine
   count s e =
-      let told : Some s ≡ Some (signature (bytes_of checked.opened) (running m.stack).routine) = e ∙ a_signature (bytes_of checked.opened) _ ret.routine in
-      let whole : s ≡ signature (bytes_of checked.opened) (running m.stack).routine = cc in
+      let told : Some s ≡ Some (signature (bytes_of checked.opened) (running_routine m.stack).routine) = e ∙ a_signature (bytes_of checked.opened) _ ret.routine in
+      let whole : s ≡ signature (bytes_of checked.opened) (running_routine m.stack).routine = cc in
       ap (λ (x : Signature). x.results) whole
 
-  module _ (other : false ≡ eqb (running m.stack).routine 0) where
-    waits : Waits (bytes_of checked.opened) (running m.stack).routine (waiting m.stack)
-    waits = returning (bytes_of checked.opened) (accepts_checked checked) (running m.stack) (waiting m.stack) a can stands (eqb-false _ 0 (sym other))
+  module _ (other : false ≡ eqb (running_routine m.stack).routine 0) where
+    waits : Waits (bytes_of checked.opened) (running_routine m.stack).routine (waiting m.stack)
+    waits = returning (bytes_of checked.opened) (accepts_checked checked) (running_routine m.stack) (waiting m.stack) a can stands (eqb-false _ 0 (sym other))
 
-    module _ (l : Level) (first : l ≡ first_of (waiting m.stack)) (answer : Option Instr) (is : answer ≡ here (bytes_of checked.opened) l) where
-      stands_there : answer ≡ Some (Call waits.a waits.b (running m.stack).routine)
+    module _ (l : Level) (first : l ≡ newest_of (waiting m.stack)) (answer : Option Instr) (is : answer ≡ here (bytes_of checked.opened) l) where
+      stands_there : answer ≡ Some (Call waits.a waits.b (running_routine m.stack).routine)
       stands_there = is ∙ ap (here (bytes_of checked.opened)) first ∙ waits.caller.stands
 
 pub returns-then-ends_run : goal.returns-then-ends_run
 unfolding effect
 returns-then-ends_run c = λ rule ports.
-    has_ended c.requires.running (cond-true (eqb (running c.args.self.now.stack).routine 0) _ _ (sym c.if-ends_run.ensures)) refl refl
+    has_ended c.requires.running (cond-true (eqb (running_routine c.args.self.now.stack).routine 0) _ _ (sym c.if-ends_run.ensures)) refl refl
 
 pub unwrap-signature-requires : goal.unwrap-signature-requires
 unwrap-signature-requires c =
@@ -62,8 +62,8 @@ pub unreachable-requires : goal.unreachable-requires
 unreachable-requires c =
     let w = waits c.args.checked.now c.args.self.now c.args.a c.requires.able c.requires.stands c.if-ends_run.ensures in
     let there = stands_there c.args.checked.now c.args.self.now c.args.a c.requires.able c.requires.stands c.if-ends_run.ensures _ c.caller.ensures _ (sym c.unwrap-call.ensures ∙ c.instruction.ensures) in
-    let is : c.unwrap-call.result ≡ Call w.a w.b (running c.args.self.now.stack).routine = cc in
-    c.in_default.not-Call w.a w.b (running c.args.self.now.stack).routine is
+    let is : c.unwrap-call.result ≡ Call w.a w.b (running_routine c.args.self.now.stack).routine = cc in
+    c.in_default.not-Call w.a w.b (running_routine c.args.self.now.stack).routine is
 
 pub leave-requires : goal.leave-requires
 leave-requires c =
@@ -71,7 +71,7 @@ leave-requires c =
     let w = waits c.args.checked.now c.args.self.now c.args.a c.requires.able c.requires.stands c.if-ends_run.ensures in
     let n = count c.args.checked.now c.args.self.now c.args.a c.requires.able c.requires.stands c.unwrap-signature.result (sym c.unwrap-signature.ensures ∙ c.signature.ensures ∙ ap (λ l. signature_at (bytes_of c.args.checked.now.opened) l.routine) c.running.ensures) in
     let there = stands_there c.args.checked.now c.args.self.now c.args.a c.requires.able c.requires.stands c.if-ends_run.ensures _ c.caller.ensures _ (sym c.unwrap-call.ensures ∙ c.instruction.ensures) in
-    let same : Some c.unwrap-call.result ≡ Some (Call w.a w.b (running c.args.self.now.stack).routine) = there in
+    let same : Some c.unwrap-call.result ≡ Some (Call w.a w.b (running_routine c.args.self.now.stack).routine) = there in
     let is = c.in-Call.is in
     let first : c.in-Call.into ≡ w.a = cc in
     record {
@@ -86,12 +86,12 @@ unfolding effect handed resumed into
 returns c = λ rule ports.
     let bs = bytes_of c.args.checked.now.opened in
     let m = c.args.self.now in
-    let l = running m.stack in
-    let g = first_of (waiting m.stack) in
+    let l = running_routine m.stack in
+    let g = newest_of (waiting m.stack) in
     let w = waits c.args.checked.now m c.args.a c.requires.able c.requires.stands c.if-ends_run.ensures in
     let n = count c.args.checked.now m c.args.a c.requires.able c.requires.stands c.unwrap-signature.result (sym c.unwrap-signature.ensures ∙ c.signature.ensures ∙ ap (λ l. signature_at (bytes_of c.args.checked.now.opened) l.routine) c.running.ensures) in
     let there = stands_there c.args.checked.now m c.args.a c.requires.able c.requires.stands c.if-ends_run.ensures _ c.caller.ensures _ (sym c.unwrap-call.ensures ∙ c.instruction.ensures) in
-    let same : Some c.unwrap-call.result ≡ Some (Call w.a w.b (running c.args.self.now.stack).routine) = there in
+    let same : Some c.unwrap-call.result ≡ Some (Call w.a w.b (running_routine c.args.self.now.stack).routine) = there in
     let is = c.in-Call.is in
     let first : c.in-Call.into ≡ w.a = cc in
     let wants : into bs g.routine (here bs g) ≡ w.a = ap (into bs g.routine) w.caller.stands in

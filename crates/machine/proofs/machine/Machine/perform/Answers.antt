@@ -14,8 +14,8 @@ use Rattle.module.specs.Told.{bytes_of}
 use Rattle.machine.specs.declared.machine.Machine.{Machine}
 use Rattle.machine.specs.Level.{level_of, value, jumped}
 use Rattle.machine.specs.Memory.{fits, loading, storing}
-use Rattle.machine.specs.Nested.{running, waiting}
-use Rattle.machine.specs.View.{effect_in, Makes}
+use Rattle.machine.specs.Nested.{running_routine, waiting}
+use Rattle.machine.specs.View.{effect_in, Performed}
 use Rattle.machine.specs.World.{goes, trips, or_trip, or_refused, able, here, effect}
 use Rattle.machine.proofs.Frames.{running_is}
 use Rattle.machine.proofs.Legal.{frame_ready}
@@ -327,8 +327,8 @@ call-requires g c =
     let same = put_back m (omega arith) c.index-self-self.result in
     record {
       running = c.requires.running;
-      stands = ap (λ (n : Machine). here bs (running n.stack)) same ∙ c.requires.stands ∙ ap Some c.in-Call.is;
-      able = ap (λ (n : Machine). able bs (running n.stack) (waiting n.stack)) same ∙ c.requires.able;
+      stands = ap (λ (n : Machine). here bs (running_routine n.stack)) same ∙ c.requires.stands ∙ ap Some c.in-Call.is;
+      able = ap (λ (n : Machine). able bs (running_routine n.stack) (waiting n.stack)) same ∙ c.requires.able;
     }
 
 pub give_back-requires : goal.give_back-requires
@@ -338,8 +338,8 @@ give_back-requires g c =
     let same = put_back m (omega arith) c.index-self-self.result in
     record {
       running = c.requires.running;
-      stands = ap (λ (n : Machine). here bs (running n.stack)) same ∙ c.requires.stands ∙ ap Some c.in-Ret.is;
-      able = ap (λ (n : Machine). able bs (running n.stack) (waiting n.stack)) same ∙ c.requires.able;
+      stands = ap (λ (n : Machine). here bs (running_routine n.stack)) same ∙ c.requires.stands ∙ ap Some c.in-Ret.is;
+      able = ap (λ (n : Machine). able bs (running_routine n.stack) (waiting n.stack)) same ∙ c.requires.able;
     }
 
 pub returns-in-Call-clause-done : goal.returns-in-Call-clause-done
@@ -347,7 +347,7 @@ returns-in-Call-clause-done g c =
     let m = c.args.self.now in
     let same = put_back m (omega arith) c.index-self-self.result in
     rw c.in-Call.is
-    (on_ok_weaker c.call.result (λ does. subst (λ (n : Machine). Makes (bytes_of c.args.checked.now.opened) (g.H.Host.rule (g.H.Host.base c.args.host.now)) (Call c.in-Call.a c.in-Call.b c.in-Call.n) n (g.H.Host.ports c.args.host.now) c.call.new.self (g.H.Host.ports c.args.host.now)) same (does (g.H.Host.rule (g.H.Host.base c.args.host.now)) (g.H.Host.ports c.args.host.now))) c.call.ensures.done)
+    (on_ok_weaker c.call.result (λ does. subst (λ (n : Machine). Performed (bytes_of c.args.checked.now.opened) (g.H.Host.rule (g.H.Host.base c.args.host.now)) (Call c.in-Call.a c.in-Call.b c.in-Call.n) n (g.H.Host.ports c.args.host.now) c.call.new.self (g.H.Host.ports c.args.host.now)) same (does (g.H.Host.rule (g.H.Host.base c.args.host.now)) (g.H.Host.ports c.args.host.now))) c.call.ensures.done)
 
 pub returns-in-Call-clause-tripped : goal.returns-in-Call-clause-tripped
 returns-in-Call-clause-tripped g c =
@@ -361,7 +361,7 @@ pub returns-in-Ret-clause-done : goal.returns-in-Ret-clause-done
 returns-in-Ret-clause-done g c =
     let m = c.args.self.now in
     let same = put_back m (omega arith) c.index-self-self.result in
-    rw c.in-Ret.is (subst (λ (n : Machine). Makes (bytes_of c.args.checked.now.opened) (g.H.Host.rule (g.H.Host.base c.args.host.now)) (Ret c.in-Ret.a) n (g.H.Host.ports c.args.host.now) c.give_back.new.self (g.H.Host.ports c.args.host.now)) same (c.give_back.ensures (g.H.Host.rule (g.H.Host.base c.args.host.now)) (g.H.Host.ports c.args.host.now)))
+    rw c.in-Ret.is (subst (λ (n : Machine). Performed (bytes_of c.args.checked.now.opened) (g.H.Host.rule (g.H.Host.base c.args.host.now)) (Ret c.in-Ret.a) n (g.H.Host.ports c.args.host.now) c.give_back.new.self (g.H.Host.ports c.args.host.now)) same (c.give_back.ensures (g.H.Host.rule (g.H.Host.base c.args.host.now)) (g.H.Host.ports c.args.host.now)))
 
 pub returns-in_err-v-in-Get-clause-tripped : goal.returns-in_err-v-in-Get-clause-tripped
 unfolding effect

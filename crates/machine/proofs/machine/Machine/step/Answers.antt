@@ -3,7 +3,7 @@ use Rattle.std.specs.Option.{is_some}
 use Rattle.faults.specs.Causes.{cause_of}
 use Rattle.module.specs.Told.{bytes_of}
 use Rattle.machine.specs.declared.machine.Machine.{Machine}
-use Rattle.machine.specs.Nested.{running, waiting}
+use Rattle.machine.specs.Nested.{running_routine, waiting}
 use Rattle.machine.specs.View.{world_of}
 use Rattle.machine.specs.World.{after, here, trips}
 use Rattle.machine.proofs.Legal.{stands_ready, stands_somewhere}
@@ -14,7 +14,7 @@ pub unwrap-instr-requires : goal.unwrap-instr-requires
 unwrap-instr-requires g c =
     let bs = bytes_of c.args.checked.now.opened in
     let s = c.args.self.now.stack in
-    ap is_some (c.instruction.ensures ∙ ap (here bs) c.running.ensures) ∙ stands_somewhere bs (running s) (waiting s) c.requires.able
+    ap is_some (c.instruction.ensures ∙ ap (here bs) c.running.ensures) ∙ stands_somewhere bs (running_routine s) (waiting s) c.requires.able
 
 pub trip-requires-clause-routine : goal.trip-requires-clause-routine
 trip-requires-clause-routine g c =
@@ -33,8 +33,8 @@ returns-in-Err-clause-step g c =
     let host = c.args.host.now in
     let ports = g.H.Host.ports host in
     base bs (g.H.Host.rule (g.H.Host.base host)) m ports c.requires.running c.unwrap-instr.result c.requires.able (sym (sym c.unwrap-instr.ensures ∙ c.instruction.ensures ∙ ap (here (bytes_of c.args.checked.now.opened)) c.running.ensures))
-    ∙ ap (λ e. Some (after (world_of m ports) (running m.stack) e)) c.in-Err.ensures.tripped
-    ∙ ap (λ (n : Machine). Some (after (world_of n ports) (running n.stack) (trips (cause_of c.in-Err.cause)))) (sym c.in-Err.ensures.unchanged)
+    ∙ ap (λ e. Some (after (world_of m ports) (running_routine m.stack) e)) c.in-Err.ensures.tripped
+    ∙ ap (λ (n : Machine). Some (after (world_of n ports) (running_routine n.stack) (trips (cause_of c.in-Err.cause)))) (sym c.in-Err.ensures.unchanged)
     ∙ ap Some (sym (c.trip.ensures ports))
     ∙ ap (λ ps. Some (world_of c.trip.new.self ps)) (sym c.in-Err.ensures.rested)
 

@@ -1,6 +1,6 @@
 use Rattle.std.proofs.Common.{length, get_or, ap, ◌∙◌, arith}
-use Rattle.machine.specs.Level.{level, variables, copied}
-use Rattle.machine.specs.Nested.{running, waiting}
+use Rattle.machine.specs.Level.{level, as_variables, copied}
+use Rattle.machine.specs.Nested.{running_routine, waiting}
 use Rattle.machine.proofs.Frames.{room_above, few_registers, calling, begun_running, begun_waiting}
 use Rattle.machine.proofs.stack.Stack.enter.Goals as goal
 
@@ -23,7 +23,7 @@ pub invariant_of-self : goal.invariant_of-self
 invariant_of-self c = record { nested = omega (arith, room_above c.args.self.now c.requires.room) }
 
 pub returns : goal.returns
-unfolding running waiting
+unfolding running_routine waiting
 returns c =
     let s = c.args.self.now in
     let room = room_above s c.requires.room in
@@ -31,6 +31,6 @@ returns c =
     let back = c.split_at_mut-below.ensures.back in
     let caller = calling s (omega arith) _ _ room front back c.index-below-caller.result in
     record {
-      running = begun_running s (omega arith) _ _ room front back c.begin.new.self ∙ c.begin.ensures ∙ ap (λ rs. level c.args.routine 0 (variables rs)) c.span.ensures.registers ∙ ap (λ l. level c.args.routine 0 (copied l.registers c.args.b c.args.count)) caller;
+      running = begun_running s (omega arith) _ _ room front back c.begin.new.self ∙ c.begin.ensures ∙ ap (λ rs. level c.args.routine 0 (as_variables rs)) c.span.ensures.registers ∙ ap (λ l. level c.args.routine 0 (copied l.registers c.args.b c.args.count)) caller;
       waiting = begun_waiting s (omega arith) _ _ room front back c.begin.new.self;
     }

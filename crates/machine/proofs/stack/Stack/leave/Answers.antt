@@ -1,6 +1,6 @@
 use Rattle.std.proofs.Common.{length, map, take, drop, ap, ◌∙◌, arith}
 use Rattle.machine.specs.Level.{value_of, onward, given}
-use Rattle.machine.specs.Nested.{running, waiting}
+use Rattle.machine.specs.Nested.{running_routine, waiting}
 use Rattle.machine.proofs.Frames.{some_waits, ending, going_on, ended_running, ended_waiting}
 use Rattle.machine.proofs.stack.Stack.leave.Goals as goal
 
@@ -29,7 +29,7 @@ skip-requires c =
     omega (arith, ap (λ l. l.pc) caller, ap (λ l. l.pc) c.take.ensures)
 
 pub returns : goal.returns
-unfolding running waiting
+unfolding running_routine waiting
 returns c =
     let s = c.args.self.now in
     let some = some_waits s c.requires.some in

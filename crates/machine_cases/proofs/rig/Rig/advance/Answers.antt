@@ -1,7 +1,7 @@
-use Rattle.std.proofs.Common.{[], sym}
+use Rattle.std.proofs.Common.{[]}
 use Rattle.module.specs.Told.{bytes_of}
 use Rattle.module.proofs.Accepts.{accepts_checked}
-use Rattle.machine.proofs.Runs.{any_ports, has_step, stays_sound}
+use Rattle.machine.proofs.Runs.{any_ports, has_step, stays_foretold}
 use Rattle.machine.proofs.Soundness.{never_stuck}
 use Rattle.machine_cases.proofs.rig.Rig.advance.Goals as goal
 
@@ -10,7 +10,7 @@ step-requires g c =
     let rig = c.args.self.now in
     let bs = bytes_of rig.checked.opened in
     let run = c.in-Running.is in
-    record { running = run; able = has_step bs (never_stuck bs (accepts_checked rig.checked)) rig.machine [] rig.sound run }
+    record { running = run; able = has_step bs (never_stuck bs (accepts_checked rig.checked)) rig.machine [] rig.foretold run }
 
 pub invariant_of-self : goal.invariant_of-self
 invariant_of-self g c =
@@ -18,7 +18,7 @@ invariant_of-self g c =
     let bs = bytes_of rig.checked.opened in
     let never = never_stuck bs (accepts_checked rig.checked) in
     let ports = g.H.Host.ports c.args.host.now in
-    let before = any_ports bs rig.machine [] ports rig.sound in
+    let before = any_ports bs rig.machine [] ports rig.foretold in
     let run = c.in-Running.is in
-    let after = stays_sound bs never rig.machine ports before _ c.step.new.self _ run c.step.ensures.step in
-    record { sound = any_ports bs c.step.new.self _ [] after }
+    let after = stays_foretold bs never rig.machine ports before _ c.step.new.self _ run c.step.ensures.step in
+    record { foretold = any_ports bs c.step.new.self _ [] after }

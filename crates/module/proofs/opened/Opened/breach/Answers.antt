@@ -1,7 +1,7 @@
 use Rattle.std.proofs.Common.{◌≡◌, ◌<◌, length, take, drop, Some, None, sym, ap, ◌∙◌, subst, add-one, arith, length-drop}
 use Rattle.std.proofs.lemmas.List.{drop-drop}
 use Rattle.module.specs.Layout.{routines, count, before}
-use Rattle.module.specs.Ready.{Ready}
+use Rattle.module.specs.Ready.{EarlierHold}
 use Rattle.module.specs.Rules.{holds}
 use Rattle.module.specs.Shape.{routine_rows, rows_before}
 use Rattle.module.specs.Verdict.{breach_in}
@@ -37,7 +37,7 @@ breach-requires c =
     let own : c.split_at.result.0.now ≡ routine_rows bs r
     = c.split_at.ensures.front ∙ (λ i. take (counted at i) (c.loop-index.invariant.0 i)) ∙ rows_part bs (routines bs) r (within at) in
     record {
-      ready = subst (Ready c.args.rule) (sym t.bytes) c.requires.ready;
+      earlier = subst (EarlierHold c.args.rule) (sym t.bytes) c.requires.earlier;
       filled = own ∙ sym (λ i. routine_rows (t.bytes i) (t.index i));
     }
 

@@ -1,6 +1,6 @@
 use Rattle.std.proofs.Common.{◌≡◌, ℕ, ◌<◌, get_or}
+use Rattle.module.specs.Layout.{entry_of}
 use Rattle.module.specs.Told.{bytes_of}
-use Rattle.module.specs.Unpack.{entry_of}
 use Rattle.module.proofs.Unpacks.{no_entry}
 use Rattle.module.proofs.opened.Opened.write_entries.Given as goal
 

@@ -1,5 +1,5 @@
 use Rattle.std.proofs.Common.{◌≡◌, ◌+◌, ◌*◌, ◌++◌, length, drop}
-use Rattle.packing.specs.Packed.{low2, before, row_at, entry_bytes, row_bytes, blocks}
+use Rattle.packing.specs.Packed.{low2, before, nth_row, entry_bytes, row_bytes, blocks}
 use Rattle.packing.proofs.test.Tested.write.Given as goal
 
 -- header and entries so far
@@ -19,5 +19,5 @@ invariant-loop-row l =
     let header = low2 (length es) ++ low2 (length l.image) in
     record {
       at : l.at ≡ 4 + 8 * length es + 8 * l.row-index;
-      output : l.output ≡ ((header ++ blocks (entry_bytes es) (length es)) ++ blocks (λ k. row_bytes (row_at l.rows k)) l.row-index) ++ drop l.at l.fn.output;
+      output : l.output ≡ ((header ++ blocks (entry_bytes es) (length es)) ++ blocks (λ k. row_bytes (nth_row l.rows k)) l.row-index) ++ drop l.at l.fn.output;
     }

@@ -24,10 +24,11 @@ pub record AsForetold (bs : List ℕ) (l : Level) : Type 0 where
   pub place : l.pc < count bs l.routine
   pub registers : shape_of l.registers ≡ shape bs l.routine l.pc
 
--- the same as a test, of one routine and of all
+-- the same as a test
 unfoldable pub is_foretold : List ℕ → Level → Bool
 is_foretold bs l = inside bs l.routine l.pc && same_shape (shape_of l.registers) (shape bs l.routine l.pc)
 
+-- it holds of each of these routines
 unfoldable pub all_foretold : List ℕ → List Level → Bool
 all_foretold bs [] = true
 all_foretold bs (l ∷ ls) = is_foretold bs l && all_foretold bs ls
@@ -37,24 +38,27 @@ unfoldable pub linked : List ℕ → ℕ → List Level → Bool
 linked bs r [] = r == 0
 linked bs r (g ∷ gs) = calls_routine r (here bs g) && linked bs g.routine gs
 
-unfoldable pub sound_levels : List ℕ → List Level → Bool
-sound_levels bs [] = false
-sound_levels bs (l ∷ ls) = all_foretold bs (l ∷ ls) && linked bs l.routine ls
+-- Nested routines, the running one first, are as the check foretold: there is a running one, each stands as foretold, and those
+-- that wait are linked to it.
+unfoldable pub levels_as_foretold : List ℕ → List Level → Bool
+levels_as_foretold bs [] = false
+levels_as_foretold bs (l ∷ ls) = all_foretold bs (l ∷ ls) && linked bs l.routine ls
 
-unfoldable pub sound_in : List ℕ → Phase → List Level → Bool
-sound_in bs running ls = sound_levels bs ls
-sound_in bs ended [] = true
-sound_in bs ended (l ∷ ls) = false
-sound_in bs (tripped trip) ls = sound_levels bs ls
+-- they are so in this phase: while a machine runs and after a trip as above, and after the end no routine is left
+unfoldable pub as_foretold_in : List ℕ → Phase → List Level → Bool
+as_foretold_in bs running ls = levels_as_foretold bs ls
+as_foretold_in bs ended [] = true
+as_foretold_in bs ended (l ∷ ls) = false
+as_foretold_in bs (tripped trip) ls = levels_as_foretold bs ls
 
--- a machine is as the check foretold; after the end no routine is left
-unfoldable pub sound : List ℕ → World → Bool
-sound bs w = sound_in bs w.phase w.levels
+-- A machine is as the check foretold.
+unfoldable pub as_foretold : List ℕ → World → Bool
+as_foretold bs w = as_foretold_in bs w.phase w.levels
 
 -- A module never gets stuck: its runs begin as the check foretold; a running machine that is as foretold has a next step, and
 -- is as foretold after it; and then every nested routine has the depth and the constants that the check foretold for its place.
 pub record NeverStuck (bs : List ℕ) : Type 0 where
-  pub begins : (ports : List Port) → sound bs (begun bs ports) ≡ true
-  pub goes_on : (rule : List Port → List Port) (w : World) → w.phase ≡ running → sound bs w ≡ true →
-      (v : World) × (step bs rule w ≡ Some v) × (sound bs v ≡ true)
-  pub foretold : (w : World) → sound bs w ≡ true → AllByRecursion (AsForetold bs) w.levels
+  pub begins : (ports : List Port) → as_foretold bs (begun bs ports) ≡ true
+  pub goes_on : (rule : List Port → List Port) (w : World) → w.phase ≡ running → as_foretold bs w ≡ true →
+      (v : World) × (step bs rule w ≡ Some v) × (as_foretold bs v ≡ true)
+  pub foretold : (w : World) → as_foretold bs w ≡ true → AllByRecursion (AsForetold bs) w.levels
