@@ -1,4 +1,5 @@
-//! Links the engine's static library into the program. The library of this package, and its tests, do without it.
+//! Links the engine's static library into the program compare. The library of this package, its tests and the program timing do
+//! without it.
 
 use std::env;
 
@@ -6,5 +7,5 @@ fn main() {
     let root = env::var("CARGO_MANIFEST_DIR").expect("cargo gives the folder of the package");
     let engine = format!("{root}/../crates/engine/out/libengine.a");
     println!("cargo:rerun-if-changed={engine}");
-    println!("cargo:rustc-link-arg-bins={engine}");
+    println!("cargo:rustc-link-arg-bin=compare={engine}");
 }
