@@ -8,9 +8,9 @@ use Rattle.host.specs.Axis.{axis_rule, new_axis}
 use Rattle.module.specs.Verdict.{checking}
 use Rattle.drive.specs.declared.call.Call.{Call}
 use Rattle.drive.specs.declared.call.Call.TheVariants.{Grant}
-use Rattle.drive.specs.Calls.{TickRule}
 use Rattle.drive.specs.Log.{Log, new_log, log_after, answers, fault_list}
 use Rattle.machine.specs.World.{Phase}
+use Rattle.machine.specs.Fuel.{TickRule}
 use Rattle.bench.specs.Text.{line, answer_text, port_lines, fault_lines}
 
 -- the lines of answers, and then those of the ports and of the faults of a log

@@ -5,12 +5,13 @@ use Rattle.refusal.specs.Values.{Values, caller}
 use Rattle.host.specs.Ports.{rested}
 use Rattle.machine.specs.Foretold.{begun}
 use Rattle.machine.specs.World.{Phase, running, ended, tripped, World}
+use Rattle.machine.specs.Fuel.{TickRule, by_phase, next, steps, advanced}
+use Rattle.machine.proofs.Fuel.{none_made}
 use Rattle.drive.specs.declared.call.Call.{Call}
 use Rattle.drive.specs.declared.call.Call.TheVariants.{Grant, Restart, PowerCycle}
-use Rattle.drive.specs.Calls.{TickRule, by_phase, is_fuel, refusal, next, steps, advanced, trips_of, Entry, cycle, Outcome, done, unless_refused, outcome}
+use Rattle.drive.specs.Calls.{is_fuel, refusal, trips_of, Entry, cycle, Outcome, done, unless_refused, outcome}
 use Rattle.drive.specs.Law.{Again, restart, power_cycle, History, history_from}
 use Rattle.drive.specs.Log.{Log, log, log_after, answers}
-use Rattle.drive.proofs.Spending.{none_made}
 
 -- a call that is not refused is a grant to a running drive, or no grant
 grants_run : (fuel : ℕ) (phase : Phase) → refusal (Grant fuel) phase ≡ None → phase ≡ running

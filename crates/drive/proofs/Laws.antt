@@ -13,10 +13,11 @@ use Rattle.machine.specs.declared.machine.State.{State}
 use Rattle.machine.specs.declared.machine.State.TheVariants.{Running, Ended, Tripped}
 use Rattle.machine.specs.View.{phase_of}
 use Rattle.machine.specs.World.{Phase}
+use Rattle.machine.specs.Fuel.{TickRule}
 use Rattle.drive.specs.declared.call.Call.{Call}
 use Rattle.drive.specs.declared.call.Turn.{Turn}
 use Rattle.drive.specs.declared.drive.Drive.{Drive}
-use Rattle.drive.specs.Calls.{TickRule, outcome}
+use Rattle.drive.specs.Calls.{outcome}
 use Rattle.drive.specs.Log.{Log, new_log, after_call, log_after, answers, fault_list}
 use Rattle.drive.specs.Law.{Leads, Ran, Logged, is_listed, NotStuck, Sound, history, Law}
 use Rattle.drive.specs.View.{Said, module_of, world_in, faults_in, by_values, call_of, said_of, Called, noted_all}

@@ -9,10 +9,11 @@ use Rattle.machine.specs.declared.machine.State.TheVariants.{Running, Ended, Tri
 use Rattle.machine.specs.Foretold.{begun}
 use Rattle.machine.specs.View.{phase_of, world_of}
 use Rattle.machine.specs.World.{Phase, running}
+use Rattle.machine.specs.Fuel.{TickRule, steps, advanced}
 use Rattle.drive.specs.declared.call.Call.{Call}
 use Rattle.drive.specs.declared.call.Call.TheVariants.{Grant, Restart, PowerCycle}
 use Rattle.drive.specs.declared.drive.Drive.{Drive}
-use Rattle.drive.specs.Calls.{TickRule, is_fuel, refusal, steps, advanced, trips_of, cycle, Outcome, accepted, done, unless_refused}
+use Rattle.drive.specs.Calls.{is_fuel, refusal, trips_of, cycle, Outcome, accepted, done, unless_refused}
 use Rattle.faults.specs.Lists.{cycled}
 use Rattle.drive.specs.View.{module_of, world_in, faults_in, Called, noted_all}
 use Rattle.drive.proofs.Spending.{phase_is}

@@ -5,9 +5,10 @@ use Rattle.host.specs.declared.port.Port.{Port}
 use Rattle.machine.specs.Foretold.{begun}
 use Rattle.machine.specs.View.{world_of}
 use Rattle.machine.specs.World.{Phase, running, ended, tripped, World, world}
+use Rattle.machine.specs.Fuel.{TickRule}
 use Rattle.drive.specs.declared.call.Call.TheVariants.{Restart}
 use Rattle.drive.specs.declared.drive.Drive.{Drive}
-use Rattle.drive.specs.Calls.{TickRule, refusal, Outcome, accepted, unless_refused}
+use Rattle.drive.specs.Calls.{refusal, Outcome, accepted, unless_refused}
 use Rattle.drive.specs.View.{module_of, world_in, faults_in, Called, noted_all}
 
 -- the same over other ports

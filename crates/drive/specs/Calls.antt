@@ -1,23 +1,13 @@
 -- What a call of a drive answers, and what it makes of the drive.
-use Rattle.std.specs.Prelude.{ℕ, zero, suc, Bool, cond, ◌&&◌, List, [], ◌∷◌, Some, None, Ok, Err, Option, Result, nat_le, unwrap_or}
+use Rattle.std.specs.Prelude.{ℕ, Bool, cond, ◌&&◌, List, [], ◌∷◌, Some, None, Ok, Err, Option, Result, nat_le}
 use Rattle.refusal.specs.Values.{Values, caller}
-use Rattle.host.specs.declared.port.Port.{Port}
 use Rattle.host.specs.Ports.{rested}
 use Rattle.faults.specs.Causes.{Trip}
 use Rattle.machine.specs.Foretold.{begun}
-use Rattle.machine.specs.World.{Phase, running, ended, tripped, World, step}
+use Rattle.machine.specs.World.{Phase, running, ended, tripped, World}
+use Rattle.machine.specs.Fuel.{TickRule, by_phase, steps, advanced}
 use Rattle.drive.specs.declared.call.Call.{Call}
 use Rattle.drive.specs.declared.call.Call.TheVariants.{Grant, Restart, PowerCycle}
-
--- the tick rule of a host
-abbrev pub TickRule : Type 0
-TickRule = List Port → List Port
-
--- one of three, by whether a drive runs, has ended or has tripped
-abbrev pub by_phase : {X : Type 0} → Phase → X → X → X → X
-by_phase running x y z = x
-by_phase ended x y z = y
-by_phase (tripped trip) x y z = z
 
 -- fuel that may be granted
 abbrev pub is_fuel : ℕ → Bool
@@ -28,21 +18,6 @@ abbrev pub refusal : Call → Phase → Option Values
 refusal (Grant fuel) phase = cond (is_fuel fuel) (by_phase phase None (Some (caller 15)) (Some (caller 16))) (Some (caller 14))
 refusal Restart phase = by_phase phase (Some (caller 17)) None None
 refusal PowerCycle phase = None
-
--- the world one step on; where no rule has a step, as it is
-abbrev pub next : List ℕ → TickRule → World → World
-next bs rule w = unwrap_or (step bs rule w) w
-
--- How many steps fuel makes: until it is used, or the phase leaves running. A drive never runs where the rules have no step;
--- the law says so.
-abbrev pub steps : List ℕ → TickRule → ℕ → World → ℕ
-steps bs rule zero w = 0
-steps bs rule (suc fuel) w = by_phase w.phase (suc (steps bs rule fuel (next bs rule w))) 0 0
-
--- the world n steps on
-abbrev pub advanced : List ℕ → TickRule → ℕ → World → World
-advanced bs rule zero w = w
-advanced bs rule (suc n) w = advanced bs rule n (next bs rule w)
 
 -- An entry of a log: a trip, without a mark, or a power cycle.
 pub data Entry : Type 0 where

@@ -6,10 +6,10 @@ use Rattle.host.specs.declared.port.Port.{Port}
 use Rattle.faults.specs.Causes.{Trip}
 use Rattle.machine.specs.Foretold.{AsForetold, begun}
 use Rattle.machine.specs.World.{Phase, ended, tripped, World, step}
+use Rattle.machine.specs.Fuel.{TickRule}
 use Rattle.drive.specs.declared.call.Call.{Call}
 use Rattle.drive.specs.declared.call.Call.TheVariants.{Grant, Restart, PowerCycle}
 use Rattle.drive.specs.declared.drive.Drive.{Drive}
-use Rattle.drive.specs.Calls.{TickRule}
 use Rattle.drive.specs.Log.{new_log, log_after, answers, fault_list}
 use Rattle.drive.specs.View.{module_of, world_in, faults_in, Said, Called}
 

@@ -7,8 +7,9 @@ use Rattle.faults.specs.Faults.{FaultValues, with_mark, unmarked}
 use Rattle.faults.specs.Lists.{newest}
 use Rattle.machine.specs.Foretold.{begun}
 use Rattle.machine.specs.World.{Phase, World}
+use Rattle.machine.specs.Fuel.{TickRule}
 use Rattle.drive.specs.declared.call.Call.{Call}
-use Rattle.drive.specs.Calls.{TickRule, Entry, trip, cycle, outcome}
+use Rattle.drive.specs.Calls.{Entry, trip, cycle, outcome}
 
 -- A log: the world of a drive, and all that was entered.
 pub record Log : Type 0 where

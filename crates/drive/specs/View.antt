@@ -12,7 +12,8 @@ use Rattle.module.specs.Told.{bytes_of}
 use Rattle.machine.specs.declared.machine.State.{State}
 use Rattle.machine.specs.View.{phase_of, world_of}
 use Rattle.machine.specs.World.{Phase, World}
-use Rattle.drive.specs.Calls.{TickRule, Entry, trip, cycle, outcome}
+use Rattle.machine.specs.Fuel.{TickRule}
+use Rattle.drive.specs.Calls.{Entry, trip, cycle, outcome}
 use Rattle.drive.specs.declared.call.Call.{Call}
 use Rattle.drive.specs.declared.call.Turn.{Turn}
 use Rattle.drive.specs.declared.drive.Drive.{Drive}

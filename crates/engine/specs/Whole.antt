@@ -15,8 +15,8 @@ use Rattle.faults.specs.Faults.{FaultValues}
 use Rattle.machine.specs.Level.{Level, value_of}
 use Rattle.machine.specs.Shown.{running_in}
 use Rattle.machine.specs.World.{Phase, World}
+use Rattle.machine.specs.Fuel.{TickRule}
 use Rattle.drive.specs.declared.call.Call.{Call}
-use Rattle.drive.specs.Calls.{TickRule}
 use Rattle.drive.specs.Log.{Log, new_log, log_after, answers, fault_list}
 use Rattle.drive.specs.Questions.{asked, place_in, depth_in}
 use Rattle.engine.specs.declared.field.Field.{Field}

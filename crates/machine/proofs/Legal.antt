@@ -1,5 +1,5 @@
 -- What it asks of registers that an instruction has a rule there.
-use Rattle.std.proofs.Common.{◌≡◌, ℕ, ◌+◌, ◌<◌, ◌≤◌, Bool, true, false, cond, not, ◌&&◌, ◌||◌, eqb, ltb, List, [], ◌∷◌, length, get_or, Some, None, Option, is_some, sym, refl, ap, ◌∙◌, subst, arith}
+use Rattle.std.proofs.Common.{◌≡◌, ℕ, ◌+◌, ◌<◌, ◌≤◌, Bool, true, false, cond, not, ◌&&◌, ◌||◌, eqb, ltb, List, [], ◌∷◌, length, Some, None, Option, sym, refl, ap, ◌∙◌, subst, arith}
 use Rattle.std.proofs.lemmas.List.{length-map}
 use Rattle.std.proofs.lemmas.Bool.{and_parts, ltb-true, leb-true, eqb-true, ne_eqb, false≢true}
 use Rattle.isa.specs.declared.access.Access.{Access}
@@ -13,11 +13,9 @@ use Rattle.module.specs.Places.{inside, instr_at}
 use Rattle.module.proofs.Accepts.{accepts_laid, accepts_checked}
 use Rattle.module.specs.Rules.{stacks, calls, access_in, both, within_depth, registers, constants}
 use Rattle.machine.specs.declared.frame.Register.{Register}
-use Rattle.machine.specs.Level.{Level, level_of, is_constant}
-use Rattle.machine.specs.declared.frame.Frame.{Frame}
+use Rattle.machine.specs.Level.{Level, is_constant}
 use Rattle.machine.specs.declared.machine.Machine.{Machine}
 use Rattle.machine.specs.Nested.{running_routine, waiting, newest_of}
-use Rattle.machine.proofs.Frames.{running_is}
 use Rattle.machine.specs.World.{shape_of, allowed, allowed_at, here, calls_routine, awaited, is_return, able}
 
 pub length-shape : (rs : List Register) → length (shape_of rs) ≡ length rs
@@ -81,7 +79,8 @@ unfolding instr_at
 placed bs r i x e = inside_parts bs r i (some_if (inside bs r i) (instr bs r i) x e)
 
 module _ (bs : List ℕ) (ok : accepted bs ≡ true) where
-  ready_at : (l : Level) (x : Instr) → here bs l ≡ Some x → allowed_at bs l (here bs l) ≡ true → Ready bs l x
+  -- a routine that stands at an instruction, which has a rule there
+  pub ready_at : (l : Level) (x : Instr) → here bs l ≡ Some x → allowed_at bs l (here bs l) ≡ true → Ready bs l x
   unfolding allowed_at
   ready_at l x e h =
       let p = placed bs l.routine l.pc x e in
@@ -104,23 +103,6 @@ module _ (bs : List ℕ) (ok : accepted bs ≡ true) where
 pub stands_ready : (checked : Checked) (m : Machine) (x : Instr) {y : Instr} → able (bytes_of checked.opened) (running_routine m.stack) (waiting m.stack) ≡ true →
     here (bytes_of checked.opened) (running_routine m.stack) ≡ Some x → x ≡ y → Ready (bytes_of checked.opened) (running_routine m.stack) y
 stands_ready checked m x h e is = ready (bytes_of checked.opened) (accepts_checked checked) (running_routine m.stack) (waiting m.stack) x _ h e is
-
--- the same by its frame
-pub frame_ready : (checked : Checked) (m : Machine) (x : Instr) {y : Instr} (d : Frame) → length m.stack.frames ≡ 32 →
-    able (bytes_of checked.opened) (running_routine m.stack) (waiting m.stack) ≡ true → here (bytes_of checked.opened) (running_routine m.stack) ≡ Some x → x ≡ y →
-    Ready (bytes_of checked.opened) (level_of (get_or m.stack.frames m.stack.top.index d)) y
-frame_ready checked m x {y} d whole h e is =
-    subst (λ l. Ready (bytes_of checked.opened) l y) (running_is m.stack d whole) (stands_ready checked m x h e is)
-
-allowed_some : (bs : List ℕ) (l : Level) (o : Option Instr) → allowed_at bs l o ≡ true → is_some o ≡ true
-unfolding allowed_at
-allowed_some bs l None h = h
-allowed_some bs l (Some x) h = refl
-
--- a routine that is able stands at an instruction
-pub stands_somewhere : (bs : List ℕ) (l : Level) (ls : List Level) → able bs l ls ≡ true → is_some (here bs l) ≡ true
-unfolding able
-stands_somewhere bs l ls h = allowed_some bs l (here bs l) (and_parts (allowed_at bs l (here bs l)) _ h).0
 
 -- the newest of the routines that wait stands at a call of routine r
 pub record Waits (bs : List ℕ) (r : ℕ) (ls : List Level) : Type 0 where

@@ -1,8 +1,10 @@
 pub mod Copies
 pub mod Frames
+pub mod Fuel
 pub mod Items
 pub mod Legal
 pub mod Runs
 pub mod Soundness
 pub mod Steps
+pub mod OwnSteps
 pub mod Words

@@ -1,13 +1,16 @@
 -- A machine that is as the check foretold, over its steps.
-use Rattle.std.proofs.Common.{◌≡◌, ℕ, true, List, ◌∷◌, Some, sym, refl, ap, ◌∙◌, subst}
+use Rattle.std.proofs.Common.{◌≡◌, ℕ, true, List, [], ◌∷◌, Some, sym, refl, ap, ◌∙◌, subst}
 use Rattle.host.specs.declared.port.Port.{Port}
 use Rattle.machine.specs.declared.machine.Machine.{Machine}
-use Rattle.machine.specs.declared.machine.State.TheVariants.{Running}
+use Rattle.machine.specs.declared.machine.State.{State}
+use Rattle.machine.specs.declared.machine.State.TheVariants.{Running, Ended, Tripped}
 use Rattle.machine.specs.Nested.{running_routine, waiting}
-use Rattle.machine.specs.Foretold.{NeverStuck, as_foretold}
+use Rattle.machine.specs.Foretold.{AsForetold, levels_as_foretold, as_foretold_in, NeverStuck, as_foretold}
+use Rattle.machine.specs.Fuel.{by_phase}
 use Rattle.machine.specs.View.{phase_of, levels_in, world_of}
 use Rattle.machine.specs.World.{World, world, running, able, step, step_in}
 use Rattle.machine.proofs.Legal.{some_if}
+use Rattle.machine.proofs.Soundness.{head_foretold}
 
 -- soundness says nothing of the ports
 pub any_ports : (bs : List ℕ) (m : Machine) (ports later : List Port) → as_foretold bs (world_of m ports) ≡ true → as_foretold bs (world_of m later) ≡ true
@@ -25,7 +28,7 @@ module _ (bs : List ℕ) (never : NeverStuck bs) (m : Machine) (ports : List Por
       let next = never.goes_on rule w refl (subst (λ (v : World). as_foretold bs v ≡ true) same foretold) in
       some_if (able bs (running_routine m.stack) (waiting m.stack)) _ next.0 next.1
 
-  phase_running : m.state ≡ Running → (world_of m ports).phase ≡ running
+  pub phase_running : m.state ≡ Running → (world_of m ports).phase ≡ running
   unfolding world_of
   phase_running run = ap phase_of run
 
@@ -36,3 +39,22 @@ module _ (bs : List ℕ) (never : NeverStuck bs) (m : Machine) (ports : List Por
       let both : Some next.0 ≡ Some (world_of n later) = sym next.1 ∙ e in
       let same : next.0 ≡ world_of n later = cc in
       subst (λ (v : World). as_foretold bs v ≡ true) same next.2
+
+-- a machine that stopped is not stepped
+pub rests : (m : Machine) (ports : List Port) → (m.state ≡ Running → ⊥) → (x : ℕ) → by_phase (world_of m ports).phase x 0 0 ≡ 0
+unfolding world_of
+rests m ports stopped x = go m.state stopped
+  where
+    go : (s : State) → (s ≡ Running → ⊥) → by_phase (phase_of s) x 0 0 ≡ 0
+    go Running h = absurd (h refl)
+    go Ended h = refl
+    go (Tripped cause place) h = refl
+
+module _ (bs : List ℕ) (m : Machine) (foretold : as_foretold bs (world_of m []) ≡ true) (run : m.state ≡ Running) where
+  -- the nested routines of a running machine that is as foretold are so
+  pub levels_foretold : levels_as_foretold bs (running_routine m.stack ∷ waiting m.stack) ≡ true
+  unfolding world_of as_foretold as_foretold_in
+  levels_foretold = ap (λ s. as_foretold_in bs (phase_of s) (levels_in s m.stack)) (sym run) ∙ foretold
+
+  pub running_foretold : AsForetold bs (running_routine m.stack)
+  running_foretold = head_foretold bs (running_routine m.stack) (waiting m.stack) levels_foretold

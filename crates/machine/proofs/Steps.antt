@@ -1,7 +1,6 @@
 -- A step of a machine, from what its instruction comes to.
-use Rattle.std.proofs.Common.{◌≡◌, ℕ, true, List, [], ◌∷◌, length, get_or, set, Some, Ok, Err, Result, sym, refl, ap, ◌∙◌, arith}
-use Rattle.std.proofs.lemmas.List.{set-get_or}
-use Rattle.std.specs.Result.{OnErr}
+use Rattle.std.proofs.Common.{◌≡◌, ℕ, true, List, [], ◌∷◌, length, set, Some, None, Option, sym, ap, ◌∙◌, arith}
+use Rattle.std.specs.Option.{IfNone}
 use Rattle.std.proofs.lemmas.Bool.{cond-true}
 use Rattle.isa.specs.declared.instr.Instr.{Instr}
 use Rattle.host.specs.declared.port.Port.{Port}
@@ -9,40 +8,46 @@ use Rattle.machine.specs.declared.frame.Frame.{Frame}
 use Rattle.machine.specs.declared.machine.Machine.{Machine}
 use Rattle.machine.specs.declared.memory.Memory.{Memory}
 use Rattle.machine.specs.declared.machine.State.TheVariants.{Running, Ended}
-use Rattle.machine.specs.Level.{Level, level_of, onward, wrote}
+use Rattle.machine.specs.Level.{Level, level_of, onward}
 use Rattle.machine.specs.Nested.{running_routine, waiting}
 use Rattle.machine.specs.View.{phase_of, levels_in, world_of, effect_in, Performed}
-use Rattle.machine.proofs.Frames.{running_is, set_same, below_set}
-use Rattle.machine.specs.World.{Move, goes, ends, world, running, ended, able, after, effect, effect_here, here, step, step_in}
+use Rattle.machine.proofs.Frames.{set_same, below_set}
+use Rattle.machine.specs.World.{World, goes, ends, world, running, ended, able, after, effect, effect_here, here, step, step_in}
+
+module _ (bs : List ℕ) (rule : List Port → List Port) where
+  -- the step of a world where l runs and ls wait, by what its instruction comes to
+  pub step_in_goes : (w : World) (l : Level) (ls : List Level) (x : Instr) → able bs l ls ≡ true → here bs l ≡ Some x →
+      step_in bs rule w (l ∷ ls) ≡ Some (after w l (effect bs rule x l ls w.memory w.ports))
+  unfolding step_in
+  step_in_goes w l ls x can e =
+      cond-true (able bs l ls) _ _ can ∙ ap (λ o. Some (after w l (effect_here bs rule o l ls w.memory w.ports))) e
+
+  pub step_goes : (l : Level) (ls : List Level) (memory : List ℕ) (ports : List Port) (x : Instr) → able bs l ls ≡ true → here bs l ≡ Some x →
+      step bs rule (world running (l ∷ ls) memory ports) ≡ Some (after (world running (l ∷ ls) memory ports) l (effect bs rule x l ls memory ports))
+  unfolding step
+  step_goes l ls memory ports x can e = step_in_goes (world running (l ∷ ls) memory ports) l ls x can e
 
 module _ (bs : List ℕ) (rule : List Port → List Port) (m : Machine) (ports : List Port) (run : m.state ≡ Running) where
-  running_world : world_of m ports ≡ world running (running_routine m.stack ∷ waiting m.stack) m.memory.bytes ports
+  pub running_world : world_of m ports ≡ world running (running_routine m.stack ∷ waiting m.stack) m.memory.bytes ports
   unfolding world_of
   running_world = ap (λ s. world (phase_of s) (levels_in s m.stack) m.memory.bytes ports) run
 
-  -- the step, by what its instruction comes to
-  pub base : (x : Instr) → able bs (running_routine m.stack) (waiting m.stack) ≡ true → here bs (running_routine m.stack) ≡ Some x →
+  -- the same of a machine
+  pub machine_step_goes : (x : Instr) → able bs (running_routine m.stack) (waiting m.stack) ≡ true → here bs (running_routine m.stack) ≡ Some x →
       step bs rule (world_of m ports) ≡ Some (after (world_of m ports) (running_routine m.stack) (effect_in bs rule x m ports))
-  unfolding step step_in
-  base x can e =
+  machine_step_goes x can e =
       ap (step bs rule) running_world
-      ∙ cond-true (able bs (running_routine m.stack) (waiting m.stack)) _ _ can
-      ∙ ap (λ o. Some (after (world running (running_routine m.stack ∷ waiting m.stack) m.memory.bytes ports) (running_routine m.stack)
-      (effect_here bs rule o (running_routine m.stack) (waiting m.stack) m.memory.bytes ports))) e
+      ∙ step_goes bs rule (running_routine m.stack) (waiting m.stack) m.memory.bytes ports x can e
       ∙ (λ i. Some (after (sym running_world i) (running_routine m.stack) (effect_in bs rule x m ports)))
 
 -- one instruction on
 abbrev pub next : Level → Level
 next l = onward l l.registers
 
--- what it comes to that register a gets the value v
-abbrev pub puts : Level → Machine → ℕ → List Port → ℕ → Move
-puts l m a ports v = goes (wrote l a v ∷ waiting m.stack) m.memory.bytes ports
-
--- what holds anyhow holds after an error
-pub on_err : {T E P : Type 0} (r : Result T E) → P → OnErr r P
-on_err (Ok x) p = tt
-on_err (Err e) p = p
+-- what holds anyhow holds where there is no value
+pub on_none : {T P : Type 0} (o : Option T) → P → IfNone o P
+on_none (Some x) p = tt
+on_none None p = p
 
 module _ {bs : List ℕ} {rule : List Port → List Port} {m : Machine} {ports : List Port} {n : Machine} {x : Instr} (run : m.state ≡ Running) where
   -- the run goes on
@@ -75,21 +80,14 @@ with_frame m f memory = record {
   memory = memory;
 }
 
-module _ (m : Machine) (whole : length m.stack.frames ≡ 32) (d : Frame) where
-  -- a frame that is put back changes nothing
-  pub put_back : with_frame m (get_or m.stack.frames m.stack.top.index d) m.memory ≡ m
-  put_back = λ i. record {
-    state = m.state;
-    stack = record { frames = set-get_or m.stack.frames m.stack.top.index d i; top = m.stack.top };
-    memory = m.memory;
-  }
+module _ (m : Machine) (whole : length m.stack.frames ≡ 32) (f : Frame) (memory : Memory) where
+  pub frame_runs : running_routine (with_frame m f memory).stack ≡ level_of f
+  unfolding running_routine
+  frame_runs = set_same m.stack.frames m.stack.top.index f (omega (arith, m.stack.top.nested))
 
-  -- the run goes on in the same routine
-  pub went_on : {bs : List ℕ} {rule : List Port → List Port} {ports later : List Port} {x y : Instr} {l : Level} {memory : Memory} (f : Frame) → m.state ≡ Running → x ≡ y →
-      effect bs rule y (level_of (get_or m.stack.frames m.stack.top.index d)) (waiting m.stack) m.memory.bytes ports ≡ goes (l ∷ waiting m.stack) memory.bytes later →
-      level_of f ≡ l → Performed bs rule x m ports (with_frame m f memory) later
-  unfolding running_routine waiting
-  went_on {bs} {rule} {ports} {later} {x} {y} {l} {memory} f run is e t =
-      went run is (ap (λ g. effect bs rule y g (waiting m.stack) m.memory.bytes ports) (running_is m.stack d whole) ∙ e)
-      (set_same m.stack.frames m.stack.top.index f (omega (arith, m.stack.top.nested)) ∙ t)
-      (below_set m.stack.frames m.stack.top.index m.stack.top.index f (omega arith)) refl refl
+  -- the world of a running machine with that frame
+  pub world_with : m.state ≡ Running → (ports : List Port) → world_of (with_frame m f memory) ports ≡ world running (level_of f ∷ waiting m.stack) memory.bytes ports
+  unfolding waiting
+  world_with run ports =
+      running_world [] (λ ps. ps) (with_frame m f memory) ports run
+      ∙ (λ i. world running (frame_runs i ∷ below_set m.stack.frames m.stack.top.index m.stack.top.index f (omega arith) i) memory.bytes ports)

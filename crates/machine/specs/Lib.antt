@@ -2,6 +2,8 @@ pub mod Level
 pub mod Memory
 pub mod Nested
 pub mod World
+pub mod Fuel
 pub mod View
 pub mod Foretold
+pub mod Within
 pub mod Shown

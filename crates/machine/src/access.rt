@@ -40,8 +40,8 @@ impl Memory {
         }
     }
 
-    /// The number in the bytes from an address on, or none where they pass the end.
-    pub fn load(&self, address: u64, width: Width) -> Option<u32>
+    #[inline(always)]
+    fn load_of(&self, address: u64, width: Width) -> Option<u32>
         ensures { result ≡ loading self.now.bytes address width }
     {
         if !is_inside(address, width) {
@@ -50,8 +50,8 @@ impl Memory {
         Some(self.read(address as usize, width))
     }
 
-    /// Puts the low bytes of v from an address on, or answers none where they pass the end, and then nothing changes.
-    pub fn store(&mut self, address: u64, width: Width, v: u32) -> Option<()>
+    #[inline(always)]
+    fn store_of(&mut self, address: u64, width: Width, v: u32) -> Option<()>
         ensures answer { is_some result ≡ fits address width }
         ensures memory { self.new.bytes ≡ storing self.old.bytes address width v }
     {
@@ -60,5 +60,31 @@ impl Memory {
         }
         self.write(address as usize, width, v);
         Some(())
+    }
+
+    /// The number in the bytes from an address on, or none where they pass the end.
+    // Each width by itself, here and in a store, so that it is looked at once, and its test and its access are code of their own.
+    #[inline(always)]
+    pub fn load(&self, address: u64, width: Width) -> Option<u32>
+        ensures { result ≡ loading self.now.bytes address width }
+    {
+        match width {
+            Width::One => self.load_of(address, Width::One),
+            Width::Two => self.load_of(address, Width::Two),
+            Width::Four => self.load_of(address, Width::Four),
+        }
+    }
+
+    /// Puts the low bytes of v from an address on, or answers none where they pass the end, and then nothing changes.
+    #[inline(always)]
+    pub fn store(&mut self, address: u64, width: Width, v: u32) -> Option<()>
+        ensures answer { is_some result ≡ fits address width }
+        ensures memory { self.new.bytes ≡ storing self.old.bytes address width v }
+    {
+        match width {
+            Width::One => self.store_of(address, Width::One, v),
+            Width::Two => self.store_of(address, Width::Two, v),
+            Width::Four => self.store_of(address, Width::Four, v),
+        }
     }
 }

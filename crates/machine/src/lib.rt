@@ -1,4 +1,4 @@
-//! The machine: nested routines with their registers, memory, and one step over any host.
+//! The machine: nested routines with their registers, memory, and runs over any host.
 
 #![tactic(auto)]
 
@@ -12,3 +12,4 @@ mod registers;
 mod shown;
 pub mod stack;
 mod step;
+mod within;

@@ -3,7 +3,7 @@
 // nothing, and `usize::from` says it no plainer.
 ghost use Rattle.std.specs.Prelude.{◌≡◌, ◌+◌, ◌-◌, ◌^◌, ◌<◌, ◌≤◌, [], ◌∷◌, ◌++◌, length, map, take, drop, slice_set};
 ghost use Rattle.machine.specs.declared.frame.Register.TheVariants.{Variable};
-ghost use Rattle.machine.specs.Level.{level, level_of, value_of, value, still, onward, jumped, exchanged, as_variables, given};
+ghost use Rattle.machine.specs.Level.{level, level_of, value_of, value, still, onward, exchanged, as_variables, given};
 ghost use Rattle.machine.specs.Shown.{register_of};
 
 use crate::frame::{Frame, REGISTERS, Register};
@@ -108,12 +108,6 @@ impl Frame {
         self.pc += 1;
     }
 
-    pub(crate) fn jump(&mut self, n: u32)
-        ensures { level_of self.new ≡ jumped (level_of self.old) n }
-    {
-        self.pc = n as usize;
-    }
-
     // Another routine begins in its place, with these arguments as variables.
     pub(crate) fn begin(&mut self, routine: usize, arguments: &[Register])
         requires { length arguments.now ≤ 32 }
@@ -121,9 +115,9 @@ impl Frame {
     {
         self.routine = routine;
         self.pc = 0;
-        self.depth = 0;
-        for argument in arguments {
-            self.push(Register::Variable(argument.value()));
+        self.depth = arguments.len();
+        for (k, argument) in arguments.iter().enumerate() {
+            self.registers[k] = Register::Variable(argument.value());
         }
     }
 

@@ -1,26 +1,27 @@
-// One step of a running machine.
-ghost use Rattle.std.specs.Prelude.{◌≡◌, ◌+◌, ◌<◌, true, List, length, Some, OnOk, OnErr, IfErr, ◌==◌};
+// The steps that lead from one routine to another, or stop the run.
+ghost use Rattle.std.specs.Prelude.{◌≡◌, ◌-◌, ◌<◌, ◌≤◌, true, List, [], Some, OnOk, OnErr, IfErr, ◌==◌};
 ghost use Rattle.host.specs.declared.port.Port.{Port};
 ghost use Rattle.faults.specs.Causes.{cause_of};
 ghost use Rattle.isa.specs.declared.instr.Instr.TheVariants.{Call, Ret};
 ghost use Rattle.module.specs.Told.{bytes_of};
 ghost use Rattle.machine.specs.declared.machine.State.TheVariants.{Running};
-ghost use Rattle.machine.specs.Level.{level_of, value};
-ghost use Rattle.machine.specs.Nested.{running_routine, waiting};
-ghost use Rattle.machine.specs.View.{world_of, Stands, effect_in, Performed, PerformedOverAnyHost};
-ghost use Rattle.machine.specs.World.{able, after, trips, here, step as stepped};
+ghost use Rattle.machine.specs.Foretold.{as_foretold};
+ghost use Rattle.machine.specs.Fuel.{Goes, steps, advanced};
+ghost use Rattle.machine.specs.Level.{level_of};
+ghost use Rattle.machine.specs.Nested.{running_routine};
+ghost use Rattle.machine.specs.View.{world_of, Stands, effect_in, PerformedOverAnyHost};
+ghost use Rattle.machine.specs.Within.{Stops, StandsAtStop, StopsWith};
+ghost use Rattle.machine.specs.World.{after, trips, here, step};
 
-use crate::frame::{Frame, Register};
+use crate::frame::Frame;
 use crate::machine::{Machine, State};
 use crate::stack::MOST_NESTED;
+use crate::within::Stop;
 use faults::cause::Cause;
 use host::Host;
 use isa::instr::Instr;
 use module::checked::Checked;
 use refusal::Place;
-use words::calculation::calculate;
-use words::division::divide;
-use words::test::passes;
 
 impl Frame {
     // The instruction at which the routine stands.
@@ -28,14 +29,6 @@ impl Frame {
         ensures { result ≡ here (bytes_of checked.now.opened) (level_of self.now) }
     {
         checked.instruction(self.routine, self.pc)
-    }
-
-    // The address that register b and n give, as a whole number.
-    fn address(&self, b: u8, n: u32) -> u64
-        requires { b < length (level_of self.now).registers }
-        ensures { result ≡ value (level_of self.now) b + n }
-    {
-        u64::from(self.read(b)) + u64::from(n)
     }
 }
 
@@ -96,132 +89,75 @@ impl Machine {
         self.stack.leave(a, into, signature.results)
     }
 
-    // What an instruction does, or the cause for which it trips. Each arm ends the function, so that each has its own proof.
-    fn perform<H: Host>(
-        &mut self,
-        instr: Instr,
-        checked: &Checked,
-        host: &mut H,
-    ) -> Result<(), Cause>
-        requires { Stands (bytes_of checked.now.opened) instr self.old }
-        ensures done { OnOk result (Performed (bytes_of checked.now.opened) (H.rule (H.base host.old)) instr self.old (H.ports host.old) self.new (H.ports host.new)) }
-        ensures tripped { IfErr result (λ cause. effect_in (bytes_of checked.now.opened) (H.rule (H.base host.old)) instr self.old (H.ports host.old) ≡ trips (cause_of cause)) }
-        ensures unchanged { OnErr result (self.new ≡ self.old) }
-        ensures rested { OnErr result (H.ports host.new ≡ H.ports host.old) }
-        ensures base { H.base host.new ≡ H.base host.old }
+    // The step at which a routine stops: it calls, returns or trips.
+    fn pass(&mut self, checked: &Checked, stop: Stop)
+        requires running { self.old.state ≡ Running }
+        requires foretold { as_foretold (bytes_of checked.now.opened) (world_of self.old []) ≡ true }
+        requires stands { StandsAtStop (bytes_of checked.now.opened) (running_routine self.old.stack) stop }
+        ensures { (rule : List Port → List Port) (ports : List Port) → Stops (bytes_of checked.now.opened) rule (running_routine self.old.stack) self.old.memory.bytes ports stop → step (bytes_of checked.now.opened) rule (world_of self.old ports) ≡ Some (world_of self.new ports) }
     {
-        let running = &mut self.stack.frames[self.stack.top.index];
-        match instr {
-            Instr::New => {
-                running.push(Register::Variable(0));
-                running.skip();
-                Ok(())
-            }
-            Instr::Def { n } => {
-                running.push(Register::Constant(n));
-                running.skip();
-                Ok(())
-            }
-            Instr::Kill => {
-                running.pop();
-                running.skip();
-                Ok(())
-            }
-            Instr::Mov { a, b } => {
-                running.write(a, running.read(b));
-                running.skip();
-                Ok(())
-            }
-            Instr::Swap { a, b } => {
-                running.swap(a, b);
-                running.skip();
-                Ok(())
-            }
-            Instr::Calc { operation, a, b, c } => {
-                let v = calculate(operation, running.read(b), running.read(c));
-                running.write(a, v);
-                running.skip();
-                Ok(())
-            }
-            Instr::Divide {
-                part,
-                kind,
-                a,
-                b,
-                c,
-            } => {
-                let divided = divide(part, kind, running.read(b), running.read(c));
-                let v = divided.ok_or(Cause::ZeroDivisor)?;
-                running.write(a, v);
-                running.skip();
-                Ok(())
-            }
-            Instr::Load { width, a, b, n } => {
-                let address = running.address(b, n);
-                let loaded = self.memory.load(address, width);
-                let v = loaded.ok_or(Cause::MemoryPassed { address })?;
-                running.write(a, v);
-                running.skip();
-                Ok(())
-            }
-            Instr::Store { width, a, b, n } => {
-                let address = running.address(b, n);
-                let stored = self.memory.store(address, width, running.read(a));
-                stored.ok_or(Cause::MemoryPassed { address })?;
-                running.skip();
-                Ok(())
-            }
-            Instr::Bal { n } => {
-                running.jump(n);
-                Ok(())
-            }
-            Instr::Branch { test, a, b, n } => {
-                if passes(test, running.read(a), running.read(b)) {
-                    running.jump(n);
-                } else {
-                    running.skip();
+        match stop {
+            Stop::Call { a, b, n } => {
+                if let Err(cause) = self.call(checked, a, b, n) {
+                    self.trip(cause);
                 }
-                Ok(())
             }
-            Instr::Call { a, b, n } => self.call(checked, a, b, n),
-            Instr::Ret { a } => {
-                self.give_back(checked, a);
-                Ok(())
-            }
-            Instr::Get { a, c } => {
-                // By `as`, here and in PUT: from u8 it loses nothing, and `usize::from` says it no plainer.
-                let port = c as usize;
-                let answer = host.read(port);
-                let v = answer.map_err(|refusal| Cause::Host { refusal, port })?;
-                running.write(a, v);
-                running.skip();
-                Ok(())
-            }
-            Instr::Put { b, c } => {
-                let port = c as usize;
-                let answer = host.write(port, running.read(b));
-                answer.map_err(|refusal| Cause::Host { refusal, port })?;
-                running.skip();
-                Ok(())
-            }
-            Instr::Tick => {
-                host.tick();
-                running.skip();
-                Ok(())
-            }
+            Stop::Return { a } => self.give_back(checked, a),
+            Stop::Trip(cause) => self.trip(cause),
         }
     }
 
-    /// One step of a running machine that has one: the instruction at which the running routine stands.
-    pub fn step<H: Host>(&mut self, checked: &Checked, host: &mut H)
+    // The steps that the running routine makes by itself. It answers how much fuel is left, and why it made no more if some is.
+    fn within<H: Host>(&mut self, checked: &Checked, host: &mut H, fuel: u32) -> (u32, Option<Stop>)
         requires running { self.old.state ≡ Running }
-        requires able { able (bytes_of checked.now.opened) (running_routine self.old.stack) (waiting self.old.stack) ≡ true }
-        ensures step { stepped (bytes_of checked.now.opened) (H.rule (H.base host.old)) (world_of self.old (H.ports host.old)) ≡ Some (world_of self.new (H.ports host.new)) }
+        requires foretold { as_foretold (bytes_of checked.now.opened) (world_of self.old []) ≡ true }
+        ensures few { result.0 ≤ fuel }
+        ensures goes { Goes (bytes_of checked.now.opened) (H.rule (H.base host.old)) (fuel - result.0) (world_of self.old (H.ports host.old)) (world_of self.new (H.ports host.new)) }
+        ensures running { self.new.state ≡ Running }
+        ensures foretold { as_foretold (bytes_of checked.now.opened) (world_of self.new []) ≡ true }
+        ensures stop { StopsWith (bytes_of checked.now.opened) (H.rule (H.base host.old)) result.0 (running_routine self.new.stack) self.new.memory.bytes (H.ports host.new) result.1 }
         ensures base { H.base host.new ≡ H.base host.old }
     {
-        let instr = self.stack.running().instruction(checked).unwrap();
-        if let Err(cause) = self.perform(instr, checked, host) {
-            self.trip(cause);
+        let running = &mut self.stack.frames[self.stack.top.index];
+        let code = checked.body(running.routine).unwrap();
+        running.run(code, &mut self.memory, host, fuel)
+    }
+
+    // Steps until the fuel is used, or the running routine calls, returns or trips; this step is made, too. It answers how much fuel
+    // is left.
+    fn turn<H: Host>(&mut self, checked: &Checked, host: &mut H, fuel: u32) -> u32
+        requires fuel { 0 < fuel }
+        requires running { self.old.state ≡ Running }
+        requires foretold { as_foretold (bytes_of checked.now.opened) (world_of self.old []) ≡ true }
+        ensures less { result < fuel }
+        ensures goes { Goes (bytes_of checked.now.opened) (H.rule (H.base host.old)) (fuel - result) (world_of self.old (H.ports host.old)) (world_of self.new (H.ports host.new)) }
+        ensures foretold { as_foretold (bytes_of checked.now.opened) (world_of self.new []) ≡ true }
+        ensures base { H.base host.new ≡ H.base host.old }
+    {
+        let (left, stop) = self.within(checked, host, fuel);
+        let Some(stop) = stop else {
+            return left;
+        };
+        self.pass(checked, stop);
+        left - 1
+    }
+
+    /// Steps until the fuel is used, or the state leaves running, and answers how many steps it made. The machine is as the check
+    /// foretold, and stays so.
+    pub fn run<H: Host>(&mut self, checked: &Checked, host: &mut H, fuel: u32) -> u32
+        requires foretold { as_foretold (bytes_of checked.now.opened) (world_of self.old []) ≡ true }
+        ensures made { result ≡ steps (bytes_of checked.now.opened) (H.rule (H.base host.old)) fuel (world_of self.old (H.ports host.old)) }
+        ensures world { world_of self.new (H.ports host.new) ≡ advanced (bytes_of checked.now.opened) (H.rule (H.base host.old)) result (world_of self.old (H.ports host.old)) }
+        ensures foretold { as_foretold (bytes_of checked.now.opened) (world_of self.new []) ≡ true }
+        ensures base { H.base host.new ≡ H.base host.old }
+    {
+        let mut left = fuel;
+        while left > 0 {
+            let State::Running = self.state else {
+                return fuel - left;
+            };
+            left = self.turn(checked, host, left);
         }
+        fuel
     }
 }

@@ -25,13 +25,7 @@ impl<'a> Rig<'a> {
 
     // Makes one step, if it runs, and answers whether it did.
     pub(crate) fn advance<H: Host>(&mut self, host: &mut H) -> bool {
-        match self.machine.state {
-            State::Running => {
-                self.machine.step(&self.checked, host);
-                true
-            }
-            State::Ended | State::Tripped { .. } => false,
-        }
+        self.machine.run(&self.checked, host, 1) == 1
     }
 
     pub(crate) fn state(&self) -> State {

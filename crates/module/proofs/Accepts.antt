@@ -10,6 +10,7 @@ use Rattle.isa.specs.declared.instr.Instr.{Instr}
 use Rattle.isa.specs.declared.instr.Instr.TheVariants.{Call, Ret}
 use Rattle.isa.specs.Access.{ends}
 use Rattle.isa.specs.Form.{well_formed, instruction}
+use Rattle.module.specs.declared.body.Body.{Body}
 use Rattle.module.specs.declared.checked.Checked.{Checked}
 use Rattle.module.specs.declared.opened.Opened.{Opened}
 use Rattle.module.specs.declared.rule.Rule.{Rule}
@@ -23,7 +24,7 @@ use Rattle.module.specs.Layout.{routines, count, arguments, results, opening, ro
 use Rattle.module.specs.Ready.{Everywhere}
 use Rattle.module.specs.Rules.{stacks, calls, access_in, both, within_depth, registers, all_variables, spares, constants, same_flag, same_shape, targets, closes, rule_number, rules}
 use Rattle.module.specs.Shape.{shape}
-use Rattle.module.specs.Told.{bytes_of}
+use Rattle.module.specs.Told.{bytes_of, bytes_behind}
 use Rattle.module.specs.Verdict.{breach, tried}
 use Rattle.module.proofs.Depths.{depth_kept}
 use Rattle.module.proofs.Opens.{laid, unless_ok}
@@ -49,6 +50,9 @@ accepts_by (Err x) o e = tt
 
 pub accepts_checked : (m : Checked) → accepted (bytes_of m.opened) ≡ true
 accepts_checked m = accepts m.opened m.keeps
+
+pub accepts_body : (t : Body) → accepted (bytes_behind t) ≡ true
+accepts_body t = t.keeps
 
 pub accepts_laid : (bs : List ℕ) → accepted bs ≡ true → Laid bs
 accepts_laid bs h = laid bs (parts bs h).0

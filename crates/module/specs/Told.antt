@@ -3,6 +3,7 @@ use Rattle.std.specs.Prelude.{ℕ, List, Result}
 use Rattle.std.specs.Result.{result_map_both}
 use Rattle.refusal.specs.Values.{Values, values_of}
 use Rattle.refusal.specs.declared.Refusal.{Refusal}
+use Rattle.module.specs.declared.body.Body.{Body}
 use Rattle.module.specs.declared.opened.Counts.{Counts}
 use Rattle.module.specs.declared.opened.Opened.{Opened}
 use Rattle.module.specs.declared.routine.Routine.{Routine}
@@ -14,6 +15,13 @@ bytes_of o = o.bytes.now
 -- the bytes of the module that a routine is of
 abbrev pub bytes_in : Routine → List ℕ
 bytes_in t = bytes_of t.module.now
+
+-- the bytes of the module that a body is of, and which of its routines that is
+abbrev pub bytes_behind : Body → List ℕ
+bytes_behind t = t.bytes.now
+
+abbrev pub routine_of : Body → ℕ
+routine_of t = t.routine
 
 -- an answer without what it gives, with a refusal by its four numbers
 abbrev pub verdict_of : {X : Type 0} → Result X Refusal → Result (Unit {0}) Values

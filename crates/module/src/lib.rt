@@ -2,6 +2,7 @@
 
 #![tactic(auto)]
 
+pub mod body;
 mod bytes;
 mod check;
 pub mod checked;

@@ -21,10 +21,16 @@ impl Checked<'_> {
     }
 
     /// An instruction of a routine, if there is one at this place.
+    // Inlined: a caller that knows which it is makes no test for the others.
+    #[inline(always)]
     pub fn instruction(&self, routine: usize, instruction: usize) -> Option<Instr>
         ensures { result ≡ instr_at (bytes_of self.now.opened) routine instruction }
     {
-        self.routine(routine)?.instr(instruction)
+        let body = self.body(routine)?;
+        if instruction >= body.count() {
+            return None;
+        }
+        Some(body.instruction(instruction))
     }
 
     /// What a routine takes and gives, if there is such a routine.

@@ -71,6 +71,7 @@ impl Routine<'_> {
     }
 
     // An instruction, if there is one at this place and its row is well formed.
+    #[inline(always)]
     pub(crate) fn instr(&self, instruction: usize) -> Option<Instr>
         ensures anywhere { result ≡ instr_at (bytes_in self.now) self.now.index instruction }
         ensures inside { instruction < count (bytes_in self.now) self.now.index → result ≡ instr (bytes_in self.now) self.now.index instruction }

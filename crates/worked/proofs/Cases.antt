@@ -10,8 +10,9 @@ use Rattle.module.specs.Places.{inside, instr_at}
 use Rattle.module.specs.Shape.{shape, after as passing_on}
 use Rattle.machine.specs.Level.{value}
 use Rattle.machine.specs.World.{Phase, running, ended, tripped, World, able, after, effect, allowed, allowed_at, awaited, is_return, calls_routine, handed, entered, resumed, into, step, step_in}
+use Rattle.machine.specs.Fuel.{TickRule}
 use Rattle.drive.specs.declared.call.Call.TheVariants.{Restart}
-use Rattle.drive.specs.Calls.{TickRule, Outcome, refusal, unless_refused, done, outcome}
+use Rattle.drive.specs.Calls.{Outcome, refusal, unless_refused, done, outcome}
 use Rattle.drive.specs.View.{noted_all}
 use Rattle.worked.specs.Worked.{Worked}
 use Rattle.worked.proofs.Lengths.{other_refused}

@@ -5,12 +5,13 @@ use Rattle.host.specs.Axis.{ports_with, new_axis, axis_rule}
 use Rattle.machine.specs.Level.{value}
 use Rattle.machine.specs.World.{ended, tripped, able, after, effect, allowed, allowed_at, awaited, is_return, calls_routine, handed, entered, resumed, into, step, step_in}
 use Rattle.machine.specs.Foretold.{begun}
+use Rattle.machine.specs.Fuel.{steps, advanced}
+use Rattle.machine.proofs.Fuel.{none_made}
 use Rattle.drive.specs.declared.call.Call.TheVariants.{Grant}
-use Rattle.drive.specs.Calls.{trip, steps, advanced, accepted, outcome}
+use Rattle.drive.specs.Calls.{trip, accepted, outcome}
 use Rattle.drive.specs.Log.{fault_list}
 use Rattle.worked.specs.Modules.{sample_bytes, raised_bytes}
 use Rattle.worked.specs.Runs.{refused_at_2, Grants}
-use Rattle.drive.proofs.Spending.{none_made}
 use Rattle.worked.proofs.Spent.{made}
 
 pub sample_ends : (fuel : ℕ) → 6 ≤ fuel → fuel ≤ 10000 → Grants sample_bytes fuel (6, ended) (ports_with 1200 50 50 50) []

@@ -10,7 +10,7 @@ use Rattle.faults.specs.Causes.{by_engine}
 use Rattle.machine.specs.Level.{Level, value, onward, wrote}
 use Rattle.machine.specs.Memory.{fits, loaded, stored}
 use Rattle.machine.specs.World.{goes, trips, or_trip, running, tripped, world, able, after, effect, effect_here, step, step_in}
-use Rattle.drive.specs.Calls.{TickRule}
+use Rattle.machine.specs.Fuel.{TickRule}
 use Rattle.worked.specs.Runs.{StandsAt, passed_at}
 
 all_pass : (w : Width) → fits 4294967296 w ≡ false

@@ -3,8 +3,9 @@ use Rattle.std.proofs.Common.{◌≡◌, ℕ, ◌≤◌, true, ◌&&◌, cond, L
 use Rattle.std.proofs.lemmas.Bool.{le-leb}
 use Rattle.refusal.specs.Values.{caller}
 use Rattle.machine.specs.World.{running, World}
+use Rattle.machine.specs.Fuel.{TickRule, by_phase, steps, advanced}
 use Rattle.drive.specs.declared.call.Call.TheVariants.{Grant}
-use Rattle.drive.specs.Calls.{TickRule, by_phase, is_fuel, steps, advanced, trips_of, accepted, unless_refused, outcome}
+use Rattle.drive.specs.Calls.{is_fuel, trips_of, accepted, unless_refused, outcome}
 
 fuel_right : (fuel : ℕ) → 1 ≤ fuel → fuel ≤ 10000 → is_fuel fuel ≡ true
 fuel_right fuel some few = λ i. le-leb 1 fuel some i && le-leb fuel 10000 few i

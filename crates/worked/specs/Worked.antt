@@ -20,8 +20,9 @@ use Rattle.host.specs.Axis.{ports_with, new_axis, OrderedTo120}
 use Rattle.faults.specs.Faults.{FaultValues}
 use Rattle.machine.specs.Level.{Level, value, wrote}
 use Rattle.machine.specs.World.{running, ended, tripped, World, world, step}
+use Rattle.machine.specs.Fuel.{TickRule}
 use Rattle.drive.specs.declared.call.Call.TheVariants.{Restart}
-use Rattle.drive.specs.Calls.{TickRule, outcome}
+use Rattle.drive.specs.Calls.{outcome}
 use Rattle.drive.specs.Log.{Log, after_call}
 use Rattle.drive.specs.View.{noted_all}
 use Rattle.worked.specs.Modules.{contents, sample_bytes, raised_bytes, program, load_at, Checks}

@@ -4,8 +4,9 @@ ghost use Rattle.host.specs.declared.port.Port.{Port};
 ghost use Rattle.module.specs.Told.{bytes_of};
 ghost use Rattle.machine.specs.declared.machine.State.TheVariants.{Running};
 ghost use Rattle.machine.specs.Foretold.{begun};
+ghost use Rattle.machine.specs.Fuel.{TickRule};
 ghost use Rattle.drive.specs.declared.call.Call.TheVariants.{Grant, Restart, PowerCycle};
-ghost use Rattle.drive.specs.Calls.{TickRule, is_fuel};
+ghost use Rattle.drive.specs.Calls.{is_fuel};
 ghost use Rattle.drive.specs.Law.{New};
 ghost use Rattle.drive.specs.View.{module_of, world_in, faults_in, by_values, Called};
 

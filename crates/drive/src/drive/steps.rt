@@ -1,7 +1,9 @@
 // The steps of a grant.
 ghost use Rattle.std.specs.Prelude.{◌≡◌};
 ghost use Rattle.machine.specs.declared.machine.State.TheVariants.{Running};
-ghost use Rattle.drive.specs.Calls.{steps, next, advanced, trips_of};
+ghost use Rattle.machine.specs.Fuel.{steps, advanced};
+ghost use Rattle.machine.specs.View.{phase_of};
+ghost use Rattle.drive.specs.Calls.{trips_of};
 ghost use Rattle.drive.specs.View.{module_of, world_in, faults_in, noted_all};
 
 use crate::drive::Drive;
@@ -9,15 +11,12 @@ use host::Host;
 use machine::machine::State;
 
 impl Drive<'_> {
-    // One step. A trip goes to the faults.
-    fn advance<H: Host>(&mut self, host: &mut H)
-        requires { self.old.machine.state ≡ Running }
-        ensures world { world_in self.new (H.ports host.new) ≡ next (module_of self.old) (H.rule (H.base host.old)) (world_in self.old (H.ports host.old)) }
-        ensures faults { faults_in self.new ≡ noted_all (faults_in self.old) (trips_of (world_in self.new (H.ports host.new)).phase) }
+    // The trip goes to the faults, if there is one.
+    fn note_trip(&mut self)
+        ensures faults { faults_in self.new ≡ noted_all (faults_in self.old) (trips_of (phase_of self.old.machine.state)) }
+        ensures machine { self.new.machine ≡ self.old.machine }
         ensures bytes { module_of self.new ≡ module_of self.old }
-        ensures base { H.base host.new ≡ H.base host.old }
     {
-        self.machine.step(&self.checked, host);
         if let State::Tripped { cause, place } = self.machine.state {
             self.faults.add(cause, place);
         }
@@ -33,12 +32,8 @@ impl Drive<'_> {
         ensures bytes { module_of self.new ≡ module_of self.old }
         ensures base { H.base host.new ≡ H.base host.old }
     {
-        for made in 0..fuel {
-            let State::Running = self.machine.state else {
-                return (made, self.machine.state);
-            };
-            self.advance(host);
-        }
-        (fuel, self.machine.state)
+        let made = self.machine.run(&self.checked, host, fuel);
+        self.note_trip();
+        (made, self.machine.state)
     }
 }

@@ -1,6 +1,12 @@
-use Rattle.std.proofs.Common.{◌≡◌, take}
-use Rattle.machine.specs.Level.{level, level_of, as_variables}
+use Rattle.std.proofs.Common.{◌≡◌, length, take}
+use Rattle.machine.specs.Level.{as_variables}
 use Rattle.machine.proofs.frame.Frame.begin.Given as goal
 
-abbrev pub invariant-loop-argument : goal.invariant-loop-argument
-invariant-loop-argument l = level_of l.self ≡ level l.routine 0 (as_variables (take l.argument-index l.arguments))
+abbrev pub invariant-loop-k : goal.invariant-loop-k
+invariant-loop-k l =
+    record {
+      routine : l.self.routine ≡ l.routine;
+      pc : l.self.pc ≡ 0;
+      depth : l.self.depth ≡ length l.arguments;
+      copied : take l.k l.self.registers ≡ as_variables (take l.k l.arguments);
+    }
