@@ -22,27 +22,36 @@ const LENT: u8 = 0xEE;
 pub fn check(module: &[u8], rows: usize) -> Vec<u8> {
     let mut sheet = vec![Shape::default(); rows];
     let mut out = Vec::new();
-    match checked(module, &mut sheet) {
-        Err(refusal) => {
-            out.push(1);
-            put_refusal(&mut out, refusal);
+    let answer = checked(module, &mut sheet);
+    if let Some(opened) = put_answered(&mut out, answer) {
+        for count in [
+            opened.routines(),
+            opened.instructions(),
+            opened.image_length(),
+        ] {
+            put32(&mut out, count as u32);
         }
-        Ok(opened) => {
-            out.push(0);
-            for count in [
-                opened.routines(),
-                opened.instructions(),
-                opened.image_length(),
-            ] {
-                put32(&mut out, count as u32);
-            }
-            for shape in &sheet[..opened.instructions()] {
-                out.push(shape.depth as u8);
-                put32(&mut out, shape.mask);
-            }
+        for shape in &sheet[..opened.instructions()] {
+            out.push(shape.depth as u8);
+            put32(&mut out, shape.mask);
         }
     }
     out
+}
+
+/// Puts 0 and gives what was answered, or puts 1 and the refusal.
+fn put_answered<T>(out: &mut Vec<u8>, answer: Result<T, Refusal>) -> Option<T> {
+    match answer {
+        Ok(answered) => {
+            out.push(0);
+            Some(answered)
+        }
+        Err(refusal) => {
+            out.push(1);
+            put_refusal(out, refusal);
+            None
+        }
+    }
 }
 
 fn checked<'a>(module: &'a [u8], sheet: &mut [Shape]) -> Result<Opened<'a>, Refusal> {
@@ -55,33 +64,27 @@ fn checked<'a>(module: &'a [u8], sheet: &mut [Shape]) -> Result<Opened<'a>, Refu
 pub fn run(module: &[u8], host: &[u8], calls: &[u8]) -> Vec<u8> {
     let mut sheet = vec![Shape::default(); MOST_INSTRUCTIONS];
     let mut out = Vec::new();
-    match open(module).and_then(|opened| opened.into_checked(&mut sheet)) {
-        Err(refusal) => {
-            out.push(1);
-            put_refusal(&mut out, refusal);
+    let answer = open(module).and_then(|opened| opened.into_checked(&mut sheet));
+    if let Some(checked) = put_answered(&mut out, answer) {
+        let mut rows = table_rows(host);
+        let mut host = match &rows {
+            Some(rows) => Host::table(rows),
+            None => Host::axis(),
+        };
+        let mut drive = Drive::start(checked);
+        for call in calls.chunks_exact(CALL) {
+            put_answer(&mut out, drive.call(&mut host, call_of(call)));
         }
-        Ok(checked) => {
-            out.push(0);
-            let mut rows = table_rows(host);
-            let mut host = match &rows {
-                Some(rows) => Host::table(rows),
-                None => Host::axis(),
-            };
-            let mut drive = Drive::start(checked);
-            for call in calls.chunks_exact(CALL) {
-                put_answer(&mut out, drive.call(&mut host, call_of(call)));
-            }
-            put_drive(&mut out, &drive);
-            put16(&mut out, host.ports().len() as u16);
-            for port in host.ports() {
-                put32(&mut out, port.value);
-            }
-            if let Some(rows) = &mut rows {
-                let ports = host.ports();
-                rows[..ports.len()].copy_from_slice(ports);
-                for row in rows {
-                    put_row(&mut out, row);
-                }
+        put_drive(&mut out, &drive);
+        put16(&mut out, host.ports().len() as u16);
+        for port in host.ports() {
+            put32(&mut out, port.value);
+        }
+        if let Some(rows) = &mut rows {
+            let ports = host.ports();
+            rows[..ports.len()].copy_from_slice(ports);
+            for row in rows {
+                put_row(&mut out, row);
             }
         }
     }
@@ -94,34 +97,22 @@ pub fn unpack(module: &[u8], entries: usize, rows: usize) -> Vec<u8> {
     let mut entries = vec![entry_of(&[LENT; ENTRY]); entries];
     let mut rows = vec![Row::of([LENT; INSTRUCTION]); rows];
     let mut out = Vec::new();
-    match open(module).and_then(|opened| opened.into_checked(&mut sheet)) {
-        Err(refusal) => {
-            out.push(1);
-            put_refusal(&mut out, refusal);
+    let answer = open(module).and_then(|opened| opened.into_checked(&mut sheet));
+    if let Some(checked) = put_answered(&mut out, answer) {
+        let answer = packing::unpack(&checked, &mut entries, &mut rows);
+        if let Some((n, t)) = put_answered(&mut out, answer) {
+            put32(&mut out, n as u32);
+            put32(&mut out, t as u32);
         }
-        Ok(checked) => {
-            out.push(0);
-            match packing::unpack(&checked, &mut entries, &mut rows) {
-                Ok((n, t)) => {
-                    out.push(0);
-                    put32(&mut out, n as u32);
-                    put32(&mut out, t as u32);
-                }
-                Err(refusal) => {
-                    out.push(1);
-                    put_refusal(&mut out, refusal);
-                }
-            }
-            for entry in entries {
-                put16(&mut out, entry.count);
-                out.extend([entry.arguments, entry.results]);
-            }
-            for row in rows {
-                out.extend([row.op, row.a, row.b, row.c]);
-                put32(&mut out, row.n);
-            }
-            out.extend(checked.image());
+        for entry in entries {
+            put16(&mut out, entry.count);
+            out.extend([entry.arguments, entry.results]);
         }
+        for row in rows {
+            out.extend([row.op, row.a, row.b, row.c]);
+            put32(&mut out, row.n);
+        }
+        out.extend(checked.image());
     }
     out
 }
@@ -137,15 +128,9 @@ pub fn pack(entries: &[u8], rows: &[u8], image: &[u8], size: usize) -> Vec<u8> {
     };
     let mut output = vec![LENT; size];
     let mut out = Vec::new();
-    match packing::pack(parts, &mut output) {
-        Ok(length) => {
-            out.push(0);
-            put32(&mut out, length as u32);
-        }
-        Err(refusal) => {
-            out.push(1);
-            put_refusal(&mut out, refusal);
-        }
+    let answer = packing::pack(parts, &mut output);
+    if let Some(length) = put_answered(&mut out, answer) {
+        put32(&mut out, length as u32);
     }
     out.extend(output);
     out
