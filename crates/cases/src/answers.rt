@@ -1,8 +1,10 @@
 //! Answers, with a refusal by its four numbers.
 
+use crate::build::Given;
 use module::open::open;
 use module::shape::ShapeRow;
 use refusal::Refusal;
+use std::process::Abort;
 
 /// The number, the layer, the routine and the instruction of a refusal, as the documents have them.
 #[derive(Clone, Copy, PartialEq, Eq, Debug)]
@@ -19,13 +21,25 @@ impl From<Refusal> for Refused {
     }
 }
 
-/// What open, and then check over this sheet, answer.
-pub(crate) fn answer(bytes: &[u8], sheet: &mut [ShapeRow]) -> Result<(), Refused> {
+// What open, and then check over this sheet, answer.
+fn answer(bytes: &[u8], sheet: &mut [ShapeRow]) -> Result<(), Refused> {
     open(bytes)?.check(sheet)?;
     Ok(())
 }
 
-/// The same over a sheet that is long enough for every module of the tests.
-pub(crate) fn verdict(bytes: &[u8]) -> Result<(), Refused> {
-    answer(bytes, &mut [ShapeRow::BLANK; 64])
+/// What open is given, and what open and check then answer.
+pub(crate) type Case = (Given<'static>, Result<(), Refused>);
+
+/// Wants this answer over this sheet.
+pub(crate) fn answers_over<R: Abort + AllocGlobal>(rt: &R, case: &Case, sheet: &mut [ShapeRow]) {
+    let (given, wanted) = case;
+    let bytes = given.bytes(rt.alloc()).expect(rt, "no memory");
+    assert_eq!(rt; answer(bytes.as_slice(), sheet), *wanted);
+}
+
+/// Wants these answers, each over a sheet that is long enough.
+pub(crate) fn answers<R: Abort + AllocGlobal>(rt: &R, cases: &[Case]) {
+    for case in cases {
+        answers_over(rt, case, &mut [ShapeRow::BLANK; 64]);
+    }
 }

@@ -17,39 +17,45 @@ pub(crate) const RAMP: [u8; 60] = [
     0x17, 0x00, 0x00, 0x00, 0x00, 0x00, 0x00, 0x00, // RET 0
 ];
 
+/// What a case hands to open.
+#[derive(Clone, Copy)]
+pub(crate) enum Given<'a> {
+    Bytes(&'a [u8]),
+    /// So many bytes: the ramp cut short, or with zeros after it.
+    Ramp(usize),
+    /// This byte, a hundred thousand times.
+    Filled(u8),
+    /// A module of one routine.
+    Single(&'a [Instr]),
+    /// A module of two routines, and how many arguments and results the second takes and gives.
+    Pair(&'a [Instr], &'a [Instr], u8, u8),
+}
+
+impl Given<'_> {
+    /// The bytes of a module, or of what is none.
+    pub(crate) fn bytes(self, heap: Global) -> Result<Vec<u8>, AllocError> {
+        match self {
+            Given::Bytes(bytes) => bytes.to_vec(heap),
+            Given::Ramp(length) => {
+                let mut bytes = RAMP.to_vec(heap)?;
+                bytes.resize(length, 0)?;
+                Ok(bytes)
+            }
+            Given::Filled(byte) => vec![in heap; byte; 100_000],
+            Given::Single(instrs) => module_of(heap, &[main_routine(instrs)]),
+            Given::Pair(main, instrs, arguments, results) => {
+                let signature = Signature { arguments, results };
+                module_of(heap, &[main_routine(main), Routine { instrs, signature }])
+            }
+        }
+    }
+}
+
 // A routine, by its instructions and by what it takes and gives.
 #[derive(Clone, Copy)]
 struct Routine<'a> {
     instrs: &'a [Instr],
     signature: Signature,
-}
-
-fn push_instr(bytes: &mut Vec<u8>, instr: Instr) -> Result<(), AllocError> {
-    let Row { op, a, b, c, n } = instr.into();
-    bytes.extend_from_slice(&[op, a, b, c])?;
-    bytes.extend_from_slice(&n.to_le_bytes())
-}
-
-// A module of these routines and no image. Not by pack: it would refuse the wrong ones that tests want.
-fn module_of(heap: Global, routines: &[Routine]) -> Result<Vec<u8>, AllocError> {
-    let mut bytes = Vec::new(heap);
-    bytes.extend_from_slice(&routines.len().to_le_bytes()[0..2])?;
-    bytes.extend_from_slice(&[0, 0])?;
-    let mut offset = routines.len().saturating_mul(8).saturating_add(4);
-    for routine in routines {
-        let count = routine.instrs.len();
-        bytes.extend_from_slice(&offset.to_le_bytes()[0..4])?;
-        bytes.extend_from_slice(&count.to_le_bytes()[0..2])?;
-        let Signature { arguments, results } = routine.signature;
-        bytes.extend_from_slice(&[arguments, results])?;
-        offset = count.saturating_mul(8).saturating_add(offset);
-    }
-    for routine in routines {
-        for instr in routine.instrs {
-            push_instr(&mut bytes, *instr)?;
-        }
-    }
-    Ok(bytes)
 }
 
 fn main_routine(instrs: &[Instr]) -> Routine<'_> {
@@ -59,22 +65,30 @@ fn main_routine(instrs: &[Instr]) -> Routine<'_> {
     }
 }
 
-/// A module of one routine.
-pub(crate) fn single(heap: Global, instrs: &[Instr]) -> Result<Vec<u8>, AllocError> {
-    module_of(heap, &[main_routine(instrs)])
+fn push_instr(bytes: &mut Vec<u8>, instr: Instr) -> Result<(), AllocError> {
+    let Row { op, a, b, c, n } = instr.into();
+    let [n_0, n_1, n_2, n_3] = n.to_le_bytes();
+    bytes.extend_from_slice(&[op, a, b, c, n_0, n_1, n_2, n_3])
 }
 
-/// A module of two routines, where the second takes and gives something.
-pub(crate) fn pair(
-    heap: Global,
-    main: &[Instr],
-    second: &[Instr],
-    arguments: u8,
-    results: u8,
-) -> Result<Vec<u8>, AllocError> {
-    let second = Routine {
-        instrs: second,
-        signature: Signature { arguments, results },
-    };
-    module_of(heap, &[main_routine(main), second])
+// A module of these routines and no image. Not by pack: it would refuse the wrong ones that tests want.
+fn module_of(heap: Global, routines: &[Routine]) -> Result<Vec<u8>, AllocError> {
+    let mut bytes = Vec::new(heap);
+    let [low, high, ..] = routines.len().to_le_bytes();
+    bytes.extend_from_slice(&[low, high, 0, 0])?;
+    let mut offset = routines.len().saturating_mul(8).saturating_add(4);
+    for routine in routines {
+        let count = routine.instrs.len();
+        let [o_0, o_1, o_2, o_3, ..] = offset.to_le_bytes();
+        let [low, high, ..] = count.to_le_bytes();
+        let Signature { arguments, results } = routine.signature;
+        bytes.extend_from_slice(&[o_0, o_1, o_2, o_3, low, high, arguments, results])?;
+        offset = count.saturating_mul(8).saturating_add(offset);
+    }
+    for routine in routines {
+        for instr in routine.instrs {
+            push_instr(&mut bytes, *instr)?;
+        }
+    }
+    Ok(bytes)
 }

@@ -14,3 +14,5 @@ mod open_tests;
 mod packing_tests;
 #[cfg(test)]
 mod sheet_tests;
+#[cfg(test)]
+mod written;

@@ -1,92 +1,69 @@
-use crate::answers::{Refused, verdict};
-use crate::build::{RAMP, pair};
+use crate::answers::{Case, Refused, answers};
+use crate::build::Given::{Bytes, Filled, Pair, Ramp};
+use crate::build::RAMP;
 use isa::instr::Instr;
 use module::open::open;
+use module::opened::Counts;
 use module::shape::ShapeRow;
-use std::test::Fail;
+
+const RET: [Instr; 1] = [Instr::Ret { a: 0 }];
+
+static CONTENTS: [Case; 14] = [
+    // the ramp is accepted at its own length only
+    (Ramp(60), Ok(())),
+    (Ramp(59), Err(Refused(4, 1, 0, 0))),
+    (Ramp(61), Err(Refused(4, 1, 0, 0))),
+    // too few bytes for the contents
+    (Bytes(&[]), Err(Refused(1, 1, 0, 0))),
+    (Bytes(&[1, 0, 0]), Err(Refused(1, 1, 0, 0))),
+    (Bytes(&[64, 0, 0, 0]), Err(Refused(1, 1, 0, 0))),
+    (Ramp(11), Err(Refused(1, 1, 0, 0))),
+    // counts out of range
+    (Bytes(&[0, 0, 0, 0]), Err(Refused(2, 1, 0, 0))),
+    (Bytes(&[65, 0, 0, 0]), Err(Refused(2, 1, 0, 0))),
+    (Bytes(&[1, 0, 1, 16]), Err(Refused(2, 1, 0, 0))),
+    (Bytes(&[1, 0, 0, 16]), Err(Refused(1, 1, 0, 0))),
+    // a hundred thousand bytes
+    (Filled(0), Err(Refused(2, 1, 0, 0))),
+    (Ramp(100_060), Err(Refused(4, 1, 0, 0))),
+    (Filled(255), Err(Refused(2, 1, 0, 0))),
+];
+
+// A wrong entry names its routine.
+static ENTRIES: [Case; 5] = [
+    (Pair(&RET, &RET, 0, 0), Ok(())),
+    (Pair(&RET, &[], 0, 0), Err(Refused(3, 1, 1, 0))),
+    (Pair(&RET, &RET, 33, 0), Err(Refused(3, 1, 1, 0))),
+    (Pair(&RET, &RET, 0, 9), Err(Refused(3, 1, 1, 0))),
+    // the second at byte 29 and not 28
+    (
+        Bytes(&[
+            2, 0, 0, 0, 20, 0, 0, 0, 1, 0, 0, 0, 29, 0, 0, 0, 1, 0, 0, 0, 23, 0, 0, 0, 0, 0, 0, 0,
+            23, 0, 0, 0, 0, 0, 0, 0,
+        ]),
+        Err(Refused(3, 1, 1, 0)),
+    ),
+];
 
 #[test]
-fn the_ramp_is_accepted_at_its_own_length_only(rt: HostRuntime) -> Result<(), Fail> {
-    let mut longer = RAMP.to_vec(rt.alloc())?;
-    assert_eq!(rt; longer.len(), 60);
-    assert_eq!(rt; verdict(&RAMP), Ok(()));
-    assert_eq!(rt; verdict(&RAMP[0..59]), Err(Refused(4, 1, 0, 0)));
-    longer.push(0)?;
-    assert_eq!(rt; verdict(longer.as_slice()), Err(Refused(4, 1, 0, 0)));
-    Ok(())
+fn contents_and_entries(rt: HostRuntime) {
+    answers(&rt, &CONTENTS);
+    answers(&rt, &ENTRIES);
 }
 
 #[test]
-fn an_opened_module_shows_the_bytes_and_counts(rt: HostRuntime) -> Result<(), Fail> {
-    let opened = open(&RAMP)?;
-    assert_eq!(rt; opened.counts().routines, 1);
-    assert_eq!(rt; opened.counts().total, 6);
-    assert_eq!(rt; opened.counts().image, 0);
-    assert!(rt; opened.bytes().len() == 60);
-    assert_eq!(rt; opened.bytes()[24], 0xB0);
-    Ok(())
-}
-
-#[test]
-fn too_few_bytes_for_the_contents(rt: HostRuntime) {
-    assert_eq!(rt; verdict(&[]), Err(Refused(1, 1, 0, 0)));
-    assert_eq!(rt; verdict(&[1, 0, 0]), Err(Refused(1, 1, 0, 0)));
-    assert_eq!(rt; verdict(&[64, 0, 0, 0]), Err(Refused(1, 1, 0, 0)));
-    assert_eq!(rt; verdict(&RAMP[0..11]), Err(Refused(1, 1, 0, 0)));
-}
-
-#[test]
-fn counts_out_of_range(rt: HostRuntime) {
-    assert_eq!(rt; verdict(&[0, 0, 0, 0]), Err(Refused(2, 1, 0, 0)));
-    assert_eq!(rt; verdict(&[65, 0, 0, 0]), Err(Refused(2, 1, 0, 0)));
-    assert_eq!(rt; verdict(&[1, 0, 1, 16]), Err(Refused(2, 1, 0, 0)));
-    assert_eq!(rt; verdict(&[1, 0, 0, 16]), Err(Refused(1, 1, 0, 0)));
-}
-
-#[test]
-fn wrong_entries_name_their_routine(rt: HostRuntime) -> Result<(), Fail> {
-    let ret = [Instr::Ret { a: 0 }];
-    let heap = rt.alloc();
-    assert_eq!(rt; verdict(pair(heap, &ret, &ret, 0, 0)?.as_slice()), Ok(()));
-    assert_eq!(rt;
-        verdict(pair(heap, &ret, &[], 0, 0)?.as_slice()),
-        Err(Refused(3, 1, 1, 0))
-    );
-    assert_eq!(rt;
-        verdict(pair(heap, &ret, &ret, 33, 0)?.as_slice()),
-        Err(Refused(3, 1, 1, 0))
-    );
-    assert_eq!(rt;
-        verdict(pair(heap, &ret, &ret, 0, 9)?.as_slice()),
-        Err(Refused(3, 1, 1, 0))
-    );
-    let mut shifted = pair(heap, &ret, &ret, 0, 0)?;
-    assert!(rt; shifted.len() == 36);
-    shifted[12] = 29;
-    assert_eq!(rt; verdict(shifted.as_slice()), Err(Refused(3, 1, 1, 0)));
-    Ok(())
-}
-
-#[test]
-fn a_hundred_thousand_bytes(rt: HostRuntime) -> Result<(), Fail> {
-    let zeros = vec![in rt.alloc(); 0; 100_000]?;
-    assert_eq!(rt; verdict(zeros.as_slice()), Err(Refused(2, 1, 0, 0)));
-    let mut long = RAMP.to_vec(rt.alloc())?;
-    long.extend_from_slice(zeros.as_slice())?;
-    assert_eq!(rt; verdict(long.as_slice()), Err(Refused(4, 1, 0, 0)));
-    let ones = vec![in rt.alloc(); 255; 100_000]?;
-    assert_eq!(rt; verdict(ones.as_slice()), Err(Refused(2, 1, 0, 0)));
-    Ok(())
-}
-
-#[test]
-fn a_taken_module_shows_the_same(rt: HostRuntime) -> Result<(), Fail> {
-    let mut sheet = [ShapeRow::BLANK; 6];
-    let opened = open(&RAMP)?;
-    opened.check(&mut sheet)?;
+fn an_opened_and_a_taken_module_show_the_same(rt: HostRuntime) {
+    let counts = Counts {
+        routines: 1,
+        total: 6,
+        image: 0,
+    };
+    let opened = open(&RAMP).expect(&rt, "the ramp is a module");
+    assert!(rt; opened.counts() == counts);
+    assert!(rt; opened.bytes() == &RAMP[..]);
+    let answer = opened.check(&mut [ShapeRow::BLANK; 6]);
+    assert!(rt; answer.is_ok());
     let checked = opened.take();
-    assert_eq!(rt; checked.counts().total, 6);
-    assert!(rt; checked.bytes().len() == 60);
-    assert_eq!(rt; checked.bytes()[24], 0xB0);
-    Ok(())
+    assert!(rt; checked.counts() == counts);
+    assert!(rt; checked.bytes() == &RAMP[..]);
 }

@@ -1,4 +1,5 @@
 use crate::build::RAMP;
+use crate::written::{holds, room};
 use isa::row::Row;
 use module::checked::Checked;
 use module::entry::Entry;
@@ -9,24 +10,61 @@ use packing::parts::Parts;
 use packing::round::{recover, repack};
 use refusal::{Place, Refusal};
 use std::process::Abort;
-use std::test::Fail;
 
-// What entries, rows and output hold that no call wrote.
-const OTHER_ENTRY: Entry = Entry {
-    count: 9,
-    arguments: 9,
-    results: 9,
-};
+// Macros, since the value of a constant calls no function.
+macro_rules! entry {
+    ($count:expr, $arguments:expr, $results:expr) => {
+        Entry {
+            count: $count,
+            arguments: $arguments,
+            results: $results,
+        }
+    };
+}
 
-const OTHER_ROW: Row = Row {
-    op: 99,
-    a: 99,
-    b: 99,
-    c: 99,
-    n: 99,
-};
+macro_rules! row {
+    ($op:expr, $a:expr, $b:expr, $c:expr, $n:expr) => {
+        Row {
+            op: $op,
+            a: $a,
+            b: $b,
+            c: $c,
+            n: $n,
+        }
+    };
+}
+
+macro_rules! place {
+    ($routine:expr, $instruction:expr) => {
+        Place {
+            routine: $routine,
+            instruction: $instruction,
+        }
+    };
+}
+
+// What entries, rows, sheets and output hold that no call wrote.
+const OTHER_ENTRY: Entry = entry!(9, 9, 9);
+
+const OTHER_ROW: Row = row!(99, 99, 99, 99, 99);
+
+const OTHER_SHAPE: ShapeRow = ShapeRow { depth: 7, mask: 7 };
 
 const OTHER_BYTE: u8 = 0xEE;
+
+// What the ramp is made of.
+const RAMP_PARTS: Parts<'static> = Parts {
+    entries: &[entry!(6, 0, 0)],
+    rows: &[
+        NEW,
+        row!(1, 0, 0, 0, 1200),
+        row!(25, 0, 1, 0, 0),
+        row!(26, 0, 0, 0, 0),
+        row!(24, 0, 0, 2, 0),
+        RET,
+    ],
+    image: &[],
+};
 
 // The module of two routines in the documents.
 const TWO_ROUTINES: [u8; 111] = [
@@ -39,379 +77,562 @@ const TWO_ROUTINES: [u8; 111] = [
     0x00, 0x00, 0x00, 0x00, 0x17, 0x00, 0x00, 0x00, 0x00, 0x00, 0x00, 0x00, 0xDC, 0x05, 0xC8,
 ];
 
-fn entry(count: u16, arguments: u8, results: u8) -> Entry {
-    Entry {
-        count,
-        arguments,
-        results,
-    }
-}
+// What it is made of.
+const ENTRIES: [Entry; 2] = [entry!(8, 0, 0), entry!(3, 2, 1)];
 
-// As in the tests of the machine: a crate that the tests share would be longer than these two.
-fn row(op: u8, a: u8, b: u8, c: u8, n: u32) -> Row {
-    Row { op, a, b, c, n }
-}
+const ROWS: [Row; 11] = [NEW, NEW, ZERO, FIRST, SECOND, CALL, PUT, RET, BLT, MOV, RET];
 
-fn ramp_rows() -> [Row; 6] {
-    [
-        row(0, 0, 0, 0, 0),
-        row(1, 0, 0, 0, 1200),
-        row(25, 0, 1, 0, 0),
-        row(26, 0, 0, 0, 0),
-        row(24, 0, 0, 2, 0),
-        row(23, 0, 0, 0, 0),
-    ]
-}
+const IMAGE: [u8; 3] = [0xDC, 0x05, 0xC8];
 
-// What the module of two routines is made of.
-#[derive(Clone, Copy)]
-struct TwoRoutines {
-    entries: [Entry; 2],
-    rows: [Row; 11],
-    image: [u8; 3],
-}
+const NEW: Row = row!(0, 0, 0, 0, 0);
 
-impl TwoRoutines {
-    fn parts(&self) -> Parts<'_> {
-        Parts {
-            entries: &self.entries,
-            rows: &self.rows,
-            image: &self.image,
-        }
-    }
-}
+const ZERO: Row = row!(1, 0, 0, 0, 0);
 
-fn two_routines() -> TwoRoutines {
-    TwoRoutines {
-        entries: [entry(8, 0, 0), entry(3, 2, 1)],
-        rows: [
-            row(0, 0, 0, 0, 0),
-            row(0, 0, 0, 0, 0),
-            row(1, 0, 0, 0, 0),
-            row(16, 0, 2, 2, 0),
-            row(16, 1, 2, 1, 2),
-            row(22, 0, 0, 0, 1),
-            row(25, 0, 0, 0, 0),
-            row(23, 0, 0, 0, 0),
-            row(20, 0, 1, 0, 2),
-            row(3, 0, 1, 0, 0),
-            row(23, 0, 0, 0, 0),
-        ],
-        image: [0xDC, 0x05, 0xC8],
-    }
-}
+const FIRST: Row = row!(16, 0, 2, 2, 0);
+
+const SECOND: Row = row!(16, 1, 2, 1, 2);
+
+const CALL: Row = row!(22, 0, 0, 0, 1);
+
+const PUT: Row = row!(25, 0, 0, 0, 0);
+
+const BLT: Row = row!(20, 0, 1, 0, 2);
+
+const MOV: Row = row!(3, 0, 1, 0, 0);
+
+const RET: Row = row!(23, 0, 0, 0, 0);
+
+// Not well formed: with an n, with a b, and of no opcode.
+const MOV_N: Row = row!(3, 0, 1, 0, 1);
+
+const RET_B: Row = row!(23, 0, 1, 0, 0);
+
+const UNKNOWN: Row = row!(27, 0, 0, 0, 0);
+
+// To what is absent: a routine, a register, and an instruction.
+const CALL_2: Row = row!(22, 0, 0, 0, 2);
+
+const MOV_DEEP: Row = row!(3, 0, 2, 0, 0);
+
+const BLT_FAR: Row = row!(20, 0, 1, 0, 3);
+
+// Before the first instruction of a routine that takes nothing.
+const EMPTY_SHAPE: ShapeRow = ShapeRow { depth: 0, mask: 0 };
+
+const PARTS: Parts<'static> = Parts {
+    entries: &ENTRIES,
+    rows: &ROWS,
+    image: &IMAGE,
+};
+
+// The parts of 64 routines of one RET.
+const MANY_ROUTINES: Parts<'static> = Parts {
+    entries: &[entry!(1, 0, 0); 64],
+    rows: &[RET; 64],
+    image: &[],
+};
+
+const NO_PARTS: Parts<'static> = Parts {
+    entries: &[],
+    rows: &[],
+    image: &[],
+};
 
 // Over a sheet that is long enough for every module of the tests.
 fn checked(bytes: &[u8]) -> Result<Checked<'_>, Refusal> {
     open(bytes)?.into_checked(&mut [ShapeRow::BLANK; 64])
 }
 
-fn unpack(
-    bytes: &[u8],
-    entries: &mut [Entry],
-    rows: &mut [Row],
-) -> Result<(usize, usize), Refusal> {
-    checked(bytes)?.unpack(entries, rows)
+// A call of unpack: the module, and how many entries and rows there is room for. What it answers and writes, and the image.
+struct Unpack {
+    bytes: &'static [u8],
+    room: (usize, usize),
+    answer: Result<(usize, usize), Refusal>,
+    written: Parts<'static>,
+    image: &'static [u8],
 }
 
-fn repack_bytes(
-    bytes: &[u8],
-    entries: &mut [Entry],
-    rows: &mut [Row],
-    output: &mut [u8],
-) -> Result<usize, Refusal> {
-    repack(&checked(bytes)?, entries, rows, output)
-}
-
-fn show_image(bytes: &[u8]) -> Result<&[u8], Refusal> {
-    Ok(checked(bytes)?.image())
-}
-
-#[test]
-fn unpack_with_room_for_three_more(rt: HostRuntime) {
-    let mut entries = [OTHER_ENTRY; 4];
-    let mut rows = [OTHER_ROW; 9];
-    assert_eq!(rt; unpack(&RAMP, &mut entries, &mut rows), Ok((1, 6)));
-    assert!(rt; entries[0..1] == [entry(6, 0, 0)]);
-    assert!(rt; entries[1..4] == [OTHER_ENTRY; 3]);
-    assert!(rt; rows[0..6] == ramp_rows()[..]);
-    assert!(rt; rows[6..9] == [OTHER_ROW; 3]);
-}
-
-#[test]
-fn unpack_as_in_the_documents(rt: HostRuntime) {
-    let mut entries = [OTHER_ENTRY; 4];
-    let mut rows = [OTHER_ROW; 12];
-    assert_eq!(rt; unpack(&TWO_ROUTINES, &mut entries, &mut rows), Ok((2, 11)));
-    assert!(rt; entries[0..2] == two_routines().entries[..]);
-    assert!(rt; entries[2..4] == [OTHER_ENTRY; 2]);
-    assert!(rt; rows[0..11] == two_routines().rows[..]);
-    assert!(rt; rows[11..12] == [OTHER_ROW]);
-}
-
-#[test]
-fn unpack_with_just_enough_room(rt: HostRuntime) {
-    let mut entries = [OTHER_ENTRY; 2];
-    let mut rows = [OTHER_ROW; 11];
-    assert_eq!(rt; unpack(&TWO_ROUTINES, &mut entries, &mut rows), Ok((2, 11)));
-    assert!(rt; entries == two_routines().entries);
-    assert!(rt; rows == two_routines().rows);
-}
-
-#[test]
-fn unpack_with_one_too_few_changes_nothing(rt: HostRuntime) {
-    let mut one = [OTHER_ENTRY; 1];
-    let mut rows = [OTHER_ROW; 11];
-    let mut entries = [OTHER_ENTRY; 2];
-    let mut ten = [OTHER_ROW; 10];
-    let short = Err(Refusal::Room);
-    assert_eq!(rt; unpack(&TWO_ROUTINES, &mut one, &mut rows), short);
-    assert_eq!(rt; unpack(&TWO_ROUTINES, &mut entries, &mut ten), short);
-    assert_eq!(rt; unpack(&TWO_ROUTINES, &mut [], &mut []), short);
-    assert!(rt; one == [OTHER_ENTRY; 1]);
-    assert!(rt; rows == [OTHER_ROW; 11]);
-    assert!(rt; entries == [OTHER_ENTRY; 2]);
-    assert!(rt; ten == [OTHER_ROW; 10]);
-}
-
-#[test]
-fn the_image_is_the_end_of_the_bytes(rt: HostRuntime) -> Result<(), Fail> {
-    let image = show_image(&TWO_ROUTINES)?;
-    assert!(rt; image[..] == [0xDC, 0x05, 0xC8]);
-    let none = show_image(&RAMP)?;
-    assert!(rt; none.is_empty());
-    Ok(())
-}
-
-#[test]
-fn pack_with_room_for_three_more(rt: HostRuntime) {
-    let mut output = [OTHER_BYTE; 63];
-    let parts = Parts {
-        entries: &[entry(6, 0, 0)],
-        rows: &ramp_rows(),
+static UNPACKED: [Unpack; 6] = [
+    Unpack {
+        bytes: &RAMP,
+        room: (4, 9),
+        answer: Ok((1, 6)),
+        written: RAMP_PARTS,
         image: &[],
-    };
-    assert_eq!(rt; pack(parts, &mut output), Ok(60));
-    assert!(rt; output[0..60] == RAMP[..]);
-    assert!(rt; output[60..63] == [OTHER_BYTE; 3]);
-}
+    },
+    // as in the documents
+    Unpack {
+        bytes: &TWO_ROUTINES,
+        room: (4, 12),
+        answer: Ok((2, 11)),
+        written: PARTS,
+        image: &IMAGE,
+    },
+    // just enough room
+    Unpack {
+        bytes: &TWO_ROUTINES,
+        room: (2, 11),
+        answer: Ok((2, 11)),
+        written: PARTS,
+        image: &IMAGE,
+    },
+    // one too few changes nothing
+    Unpack {
+        bytes: &TWO_ROUTINES,
+        room: (1, 11),
+        answer: Err(Refusal::Room),
+        written: NO_PARTS,
+        image: &IMAGE,
+    },
+    Unpack {
+        bytes: &TWO_ROUTINES,
+        room: (2, 10),
+        answer: Err(Refusal::Room),
+        written: NO_PARTS,
+        image: &IMAGE,
+    },
+    Unpack {
+        bytes: &TWO_ROUTINES,
+        room: (0, 0),
+        answer: Err(Refusal::Room),
+        written: NO_PARTS,
+        image: &IMAGE,
+    },
+];
 
 #[test]
-fn pack_as_in_the_documents(rt: HostRuntime) {
-    let mut output = [OTHER_BYTE; 113];
-    assert_eq!(rt; pack(two_routines().parts(), &mut output), Ok(111));
-    assert!(rt; output[0..111] == TWO_ROUTINES[..]);
-    assert!(rt; output[111..113] == [OTHER_BYTE; 2]);
-}
-
-#[test]
-fn pack_with_just_enough_room_and_one_byte_less(rt: HostRuntime) {
-    let module = two_routines();
-    let mut output = [OTHER_BYTE; 111];
-    let short = pack(module.parts(), &mut output[0..110]);
-    assert_eq!(rt; short, Err(Refusal::Room));
-    assert!(rt; output == [OTHER_BYTE; 111]);
-    assert_eq!(rt; pack(module.parts(), &mut output), Ok(111));
-    assert!(rt; output == TWO_ROUTINES);
-}
-
-fn refused(rt: &impl Abort, parts: Parts<'_>, wanted: Refusal) {
-    let mut output = [OTHER_BYTE; 113];
-    assert_eq!(rt; pack(parts, &mut output), Err(wanted));
-    assert!(rt; output == [OTHER_BYTE; 113]);
-}
-
-fn place(routine: u16, instruction: u16) -> Place {
-    Place {
-        routine,
-        instruction,
+fn unpack_writes_what_there_is_room_for(rt: HostRuntime) {
+    for case in &UNPACKED {
+        let mut entries = [OTHER_ENTRY; 4];
+        let mut rows = [OTHER_ROW; 12];
+        let (most_entries, most_rows) = case.room;
+        let checked = checked(case.bytes).expect(&rt, "a module");
+        let answer = checked.unpack(
+            room(&rt, &mut entries, most_entries),
+            room(&rt, &mut rows, most_rows),
+        );
+        assert_eq!(rt; answer, case.answer);
+        holds(&rt, &entries, case.written.entries, &OTHER_ENTRY);
+        holds(&rt, &rows, case.written.rows, &OTHER_ROW);
+        assert!(rt; checked.image() == case.image);
     }
 }
 
-// These parts, but for the entries or the rows.
-fn with_entries<'a>(parts: Parts<'a>, entries: &'a [Entry]) -> Parts<'a> {
-    Parts { entries, ..parts }
+// A call of pack: the parts, and how many bytes there is room for. What it answers and writes.
+#[derive(Clone, Copy)]
+struct Pack {
+    parts: Parts<'static>,
+    room: usize,
+    answer: Result<usize, Refusal>,
+    written: &'static [u8],
 }
 
-fn with_rows<'a>(parts: Parts<'a>, rows: &'a [Row]) -> Parts<'a> {
-    Parts { rows, ..parts }
-}
+static PACKED: [Pack; 5] = [
+    Pack {
+        parts: RAMP_PARTS,
+        room: 63,
+        answer: Ok(60),
+        written: &RAMP,
+    },
+    // as in the documents
+    Pack {
+        parts: PARTS,
+        room: 113,
+        answer: Ok(111),
+        written: &TWO_ROUTINES,
+    },
+    // just enough room, and one byte less
+    Pack {
+        parts: PARTS,
+        room: 111,
+        answer: Ok(111),
+        written: &TWO_ROUTINES,
+    },
+    Pack {
+        parts: PARTS,
+        room: 110,
+        answer: Err(Refusal::Room),
+        written: &[],
+    },
+    // the rows come before the room
+    Pack {
+        parts: Parts {
+            rows: &[
+                NEW, NEW, ZERO, FIRST, SECOND, CALL, PUT, RET, BLT, MOV_N, RET_B,
+            ],
+            ..PARTS
+        },
+        room: 110,
+        answer: Err(Refusal::Form(place!(1, 1))),
+        written: &[],
+    },
+];
 
-#[test]
-fn pack_refuses_counts(rt: HostRuntime) {
-    let module = two_routines();
-    let parts = module.parts();
-    let many = [entry(1, 0, 0); 65];
-    refused(&rt, with_entries(parts, &[]), Refusal::Counts);
-    refused(&rt, with_entries(parts, &many), Refusal::Counts);
-    let wrong = Parts {
-        entries: &[entry(8, 0, 0), entry(0, 2, 1)],
-        rows: &module.rows,
-        image: &[0; 4097],
-    };
-    refused(&rt, wrong, Refusal::Counts);
-}
-
-#[test]
-fn pack_refuses_the_first_wrong_entry(rt: HostRuntime) {
-    let module = two_routines();
-    let parts = module.parts();
-    for second in [
-        entry(0, 2, 1),
-        entry(3, 33, 1),
-        entry(3, 2, 9),
-        entry(4089, 2, 1),
-    ] {
-        let entries = [entry(8, 0, 0), second];
-        refused(&rt, with_entries(parts, &entries), Refusal::Entry(1));
-    }
-    let third = [entry(8, 0, 0), entry(3, 2, 1), OTHER_ENTRY, entry(0, 0, 0)];
-    refused(&rt, with_entries(parts, &third), Refusal::Entry(2));
-}
-
-#[test]
-fn pack_refuses_a_row_count_at_the_last_routine(rt: HostRuntime) {
-    let module = two_routines();
-    let parts = module.parts();
-    let more = [entry(8, 0, 0), entry(3, 2, 1), entry(1, 0, 0)];
-    refused(&rt, with_entries(parts, &more), Refusal::Entry(2));
-    let fewer = [entry(7, 0, 0), entry(3, 2, 1)];
-    refused(&rt, with_entries(parts, &fewer), Refusal::Entry(1));
-    refused(
-        &rt,
-        with_rows(parts, &module.rows[0..10]),
+// What pack refuses, over 113 bytes.
+static REFUSED: [(Parts<'static>, Refusal); 17] = [
+    // counts
+    (
+        Parts {
+            entries: &[],
+            ..PARTS
+        },
+        Refusal::Counts,
+    ),
+    (
+        Parts {
+            entries: &[entry!(1, 0, 0); 65],
+            ..PARTS
+        },
+        Refusal::Counts,
+    ),
+    (
+        Parts {
+            entries: &[entry!(8, 0, 0), entry!(0, 2, 1)],
+            rows: &ROWS,
+            image: &[0; 4097],
+        },
+        Refusal::Counts,
+    ),
+    // the first wrong entry
+    (
+        Parts {
+            entries: &[entry!(8, 0, 0), entry!(0, 2, 1)],
+            ..PARTS
+        },
         Refusal::Entry(1),
-    );
+    ),
+    (
+        Parts {
+            entries: &[entry!(8, 0, 0), entry!(3, 33, 1)],
+            ..PARTS
+        },
+        Refusal::Entry(1),
+    ),
+    (
+        Parts {
+            entries: &[entry!(8, 0, 0), entry!(3, 2, 9)],
+            ..PARTS
+        },
+        Refusal::Entry(1),
+    ),
+    (
+        Parts {
+            entries: &[entry!(8, 0, 0), entry!(4089, 2, 1)],
+            ..PARTS
+        },
+        Refusal::Entry(1),
+    ),
+    (
+        Parts {
+            entries: &[
+                entry!(8, 0, 0),
+                entry!(3, 2, 1),
+                OTHER_ENTRY,
+                entry!(0, 0, 0),
+            ],
+            ..PARTS
+        },
+        Refusal::Entry(2),
+    ),
+    // another number of rows than the entries count, at the last routine
+    (
+        Parts {
+            entries: &[entry!(8, 0, 0), entry!(3, 2, 1), entry!(1, 0, 0)],
+            ..PARTS
+        },
+        Refusal::Entry(2),
+    ),
+    (
+        Parts {
+            entries: &[entry!(7, 0, 0), entry!(3, 2, 1)],
+            ..PARTS
+        },
+        Refusal::Entry(1),
+    ),
+    (
+        Parts {
+            rows: &[NEW, NEW, ZERO, FIRST, SECOND, CALL, PUT, RET, BLT, MOV],
+            ..PARTS
+        },
+        Refusal::Entry(1),
+    ),
     // and rows are not looked at
-    let rows = [OTHER_ROW; 12];
-    refused(&rt, with_rows(parts, &rows), Refusal::Entry(1));
+    (
+        Parts {
+            rows: &[OTHER_ROW; 12],
+            ..PARTS
+        },
+        Refusal::Entry(1),
+    ),
     // a wrong entry comes first
-    let wrong = [entry(0, 0, 0), entry(3, 2, 1)];
-    let parts = with_entries(with_rows(parts, &[]), &wrong);
-    refused(&rt, parts, Refusal::Entry(0));
+    (
+        Parts {
+            entries: &[entry!(0, 0, 0), entry!(3, 2, 1)],
+            rows: &[],
+            image: &IMAGE,
+        },
+        Refusal::Entry(0),
+    ),
+    // the first row that is not well formed
+    (
+        Parts {
+            rows: &[
+                NEW, NEW, ZERO, FIRST, SECOND, CALL, PUT, RET, BLT, MOV, RET_B,
+            ],
+            ..PARTS
+        },
+        Refusal::Form(place!(1, 2)),
+    ),
+    (
+        Parts {
+            rows: &[
+                NEW, NEW, ZERO, FIRST, SECOND, CALL, PUT, RET, BLT, MOV_N, RET_B,
+            ],
+            ..PARTS
+        },
+        Refusal::Form(place!(1, 1)),
+    ),
+    (
+        Parts {
+            entries: &[entry!(7, 0, 0), entry!(4, 2, 1)],
+            rows: &[
+                NEW, NEW, ZERO, FIRST, SECOND, CALL, PUT, RET, BLT, MOV_N, RET_B,
+            ],
+            image: &IMAGE,
+        },
+        Refusal::Form(place!(1, 2)),
+    ),
+    (
+        Parts {
+            rows: &[
+                NEW, NEW, ZERO, FIRST, SECOND, CALL, UNKNOWN, RET, BLT, MOV_N, RET_B,
+            ],
+            ..PARTS
+        },
+        Refusal::Form(place!(0, 6)),
+    ),
+];
+
+fn packs(rt: &impl Abort, case: Pack) {
+    let mut output = [OTHER_BYTE; 113];
+    let answer = pack(case.parts, room(rt, &mut output, case.room));
+    assert_eq!(rt; answer, case.answer);
+    holds(rt, &output, case.written, &OTHER_BYTE);
 }
 
 #[test]
-fn pack_refuses_the_first_row_that_is_not_well_formed(rt: HostRuntime) {
-    let mut module = two_routines();
-    module.rows[10] = row(23, 0, 1, 0, 0);
-    refused(&rt, module.parts(), Refusal::Form(place(1, 2)));
-    module.rows[9] = row(3, 0, 1, 0, 1);
-    refused(&rt, module.parts(), Refusal::Form(place(1, 1)));
-    let short = pack(module.parts(), &mut [OTHER_BYTE; 110]);
-    assert_eq!(rt; short, Err(Refusal::Form(place(1, 1))));
-    let moved = [entry(7, 0, 0), entry(4, 2, 1)];
-    let parts = with_entries(module.parts(), &moved);
-    refused(&rt, parts, Refusal::Form(place(1, 2)));
-    module.rows[6] = row(27, 0, 0, 0, 0);
-    refused(&rt, module.parts(), Refusal::Form(place(0, 6)));
+fn pack_writes_or_refuses(rt: HostRuntime) {
+    for case in &PACKED {
+        packs(&rt, *case);
+    }
+    for (parts, refusal) in &REFUSED {
+        packs(
+            &rt,
+            Pack {
+                parts: *parts,
+                room: 113,
+                answer: Err(*refusal),
+                written: &[],
+            },
+        );
+    }
 }
+
+// A call of repack: how many entries, rows and bytes there is room for. What it answers and writes.
+struct Repack {
+    room: (usize, usize, usize),
+    answer: Result<usize, Refusal>,
+    written: Parts<'static>,
+    output: &'static [u8],
+}
+
+static REPACKED: [Repack; 3] = [
+    Repack {
+        room: (5, 14, 114),
+        answer: Ok(111),
+        written: PARTS,
+        output: &TWO_ROUTINES,
+    },
+    // one too few
+    Repack {
+        room: (2, 10, 110),
+        answer: Err(Refusal::Room),
+        written: NO_PARTS,
+        output: &[],
+    },
+    Repack {
+        room: (2, 11, 110),
+        answer: Err(Refusal::Room),
+        written: PARTS,
+        output: &[],
+    },
+];
 
 #[test]
 fn repack_gives_the_bytes_back(rt: HostRuntime) {
-    let mut entries = [OTHER_ENTRY; 5];
-    let mut rows = [OTHER_ROW; 14];
-    let mut output = [OTHER_BYTE; 114];
-    let size = repack_bytes(&TWO_ROUTINES, &mut entries, &mut rows, &mut output);
-    assert_eq!(rt; size, Ok(111));
-    assert!(rt; output[0..111] == TWO_ROUTINES[..]);
-    assert!(rt; output[111..114] == [OTHER_BYTE; 3]);
-    assert!(rt; entries[2..5] == [OTHER_ENTRY; 3]);
-    assert!(rt; rows[11..14] == [OTHER_ROW; 3]);
+    for case in &REPACKED {
+        let mut entries = [OTHER_ENTRY; 5];
+        let mut rows = [OTHER_ROW; 14];
+        let mut output = [OTHER_BYTE; 114];
+        let (most_entries, most_rows, most_bytes) = case.room;
+        let checked = checked(&TWO_ROUTINES).expect(&rt, "a module");
+        let answer = repack(
+            &checked,
+            room(&rt, &mut entries, most_entries),
+            room(&rt, &mut rows, most_rows),
+            room(&rt, &mut output, most_bytes),
+        );
+        assert_eq!(rt; answer, case.answer);
+        holds(&rt, &entries, case.written.entries, &OTHER_ENTRY);
+        holds(&rt, &rows, case.written.rows, &OTHER_ROW);
+        holds(&rt, &output, case.output, &OTHER_BYTE);
+    }
 }
 
-#[test]
-fn repack_with_one_too_few(rt: HostRuntime) {
-    let mut entries = [OTHER_ENTRY; 2];
-    let mut few = [OTHER_ROW; 10];
-    let mut rows = [OTHER_ROW; 11];
-    let mut output = [OTHER_BYTE; 110];
-    let room = Err(Refusal::Room);
-    assert_eq!(rt;
-        repack_bytes(&TWO_ROUTINES, &mut entries, &mut few, &mut output),
-        room
-    );
-    assert!(rt; entries == [OTHER_ENTRY; 2]);
-    assert!(rt; few == [OTHER_ROW; 10]);
-    assert_eq!(rt;
-        repack_bytes(&TWO_ROUTINES, &mut entries, &mut rows, &mut output),
-        room
-    );
-    assert!(rt; output == [OTHER_BYTE; 110]);
-    assert!(rt; rows == two_routines().rows);
+// How many bytes, shapes, entries and rows there is room for.
+#[derive(Clone, Copy)]
+struct Room {
+    output: usize,
+    sheet: usize,
+    entries: usize,
+    rows: usize,
 }
 
-// Packs 64 routines of one RET with an image, and takes them back.
-fn many_routines(rt: &impl Abort, image: &[u8], size: usize) -> Result<(), Fail> {
-    let entries = [entry(1, 0, 0); 64];
-    let rows = [row(23, 0, 0, 0, 0); 64];
+const AMPLE: Room = Room {
+    output: 5125,
+    sheet: 64,
+    entries: 67,
+    rows: 67,
+};
+
+const JUST_ENOUGH: Room = Room {
+    output: 111,
+    sheet: 12,
+    entries: 2,
+    rows: 11,
+};
+
+// A call of recover: the parts, which are packed into so many bytes. What it answers and writes.
+struct Recover {
+    parts: Parts<'static>,
+    room: Room,
+    size: usize,
+    answer: Result<(usize, usize), Refusal>,
+    written: Parts<'static>,
+    sheet: &'static [ShapeRow],
+}
+
+static RECOVERED: [Recover; 7] = [
+    // 64 routines of one RET, with images of all lengths
+    Recover {
+        parts: MANY_ROUTINES,
+        room: AMPLE,
+        size: 1028,
+        answer: Ok((64, 64)),
+        written: MANY_ROUTINES,
+        sheet: &[EMPTY_SHAPE; 64],
+    },
+    Recover {
+        parts: Parts {
+            image: &[7],
+            ..MANY_ROUTINES
+        },
+        room: AMPLE,
+        size: 1029,
+        answer: Ok((64, 64)),
+        written: MANY_ROUTINES,
+        sheet: &[EMPTY_SHAPE; 64],
+    },
+    Recover {
+        parts: Parts {
+            image: &[7; 4096],
+            ..MANY_ROUTINES
+        },
+        room: AMPLE,
+        size: 5124,
+        answer: Ok((64, 64)),
+        written: MANY_ROUTINES,
+        sheet: &[EMPTY_SHAPE; 64],
+    },
+    // packed, and refused by the check
+    Recover {
+        parts: Parts {
+            rows: &[
+                NEW, NEW, ZERO, FIRST, SECOND, CALL_2, PUT, RET, BLT, MOV, RET,
+            ],
+            ..PARTS
+        },
+        room: JUST_ENOUGH,
+        size: 111,
+        answer: Err(Refusal::Callee(place!(0, 5))),
+        written: NO_PARTS,
+        sheet: &[ShapeRow::BLANK; 11],
+    },
+    Recover {
+        parts: Parts {
+            rows: &[
+                NEW, NEW, ZERO, FIRST, SECOND, CALL, PUT, RET, BLT, MOV_DEEP, RET,
+            ],
+            ..PARTS
+        },
+        room: JUST_ENOUGH,
+        size: 111,
+        answer: Err(Refusal::Register(place!(1, 1))),
+        written: NO_PARTS,
+        sheet: &[ShapeRow::BLANK; 11],
+    },
+    Recover {
+        parts: Parts {
+            rows: &[
+                NEW, NEW, ZERO, FIRST, SECOND, CALL, PUT, RET, BLT_FAR, MOV, RET,
+            ],
+            ..PARTS
+        },
+        room: JUST_ENOUGH,
+        size: 111,
+        answer: Err(Refusal::Target(place!(1, 0))),
+        written: NO_PARTS,
+        sheet: &[ShapeRow::BLANK; 11],
+    },
+    Recover {
+        parts: Parts {
+            entries: &[entry!(7, 0, 0), entry!(4, 2, 1)],
+            ..PARTS
+        },
+        room: JUST_ENOUGH,
+        size: 111,
+        answer: Err(Refusal::Ending(place!(0, 6))),
+        written: NO_PARTS,
+        sheet: &[ShapeRow::BLANK; 11],
+    },
+];
+
+fn recovers(rt: &impl Abort, case: &Recover) {
     let mut output = [OTHER_BYTE; 5125];
-    let mut sheet = [ShapeRow::BLANK; 64];
-    let mut back_entries = [OTHER_ENTRY; 67];
-    let mut back_rows = [OTHER_ROW; 67];
-    let parts = Parts {
-        entries: &entries,
-        rows: &rows,
-        image,
-    };
-    let back = recover(
-        parts,
-        &mut output,
-        &mut sheet,
-        &mut back_entries,
-        &mut back_rows,
+    let mut sheet = [OTHER_SHAPE; 64];
+    let mut entries = [OTHER_ENTRY; 67];
+    let mut rows = [OTHER_ROW; 67];
+    let answer = recover(
+        case.parts,
+        room(rt, &mut output, case.room.output),
+        room(rt, &mut sheet, case.room.sheet),
+        room(rt, &mut entries, case.room.entries),
+        room(rt, &mut rows, case.room.rows),
     );
-    assert_eq!(rt; back, Ok((64, 64)));
-    assert!(rt; back_entries[0..64] == entries[..]);
-    assert!(rt; back_entries[64..67] == [OTHER_ENTRY; 3]);
-    assert!(rt; back_rows[0..64] == rows[..]);
-    assert!(rt; back_rows[64..67] == [OTHER_ROW; 3]);
-    let opened = open(&output[0..size.min(5125)])?;
-    assert_eq!(rt; opened.counts().image, image.len());
-    assert_eq!(rt; output[size.min(5124)], OTHER_BYTE);
-    Ok(())
+    assert_eq!(rt; answer, case.answer);
+    holds(rt, &sheet, case.sheet, &OTHER_SHAPE);
+    holds(rt, &entries, case.written.entries, &OTHER_ENTRY);
+    holds(rt, &rows, case.written.rows, &OTHER_ROW);
+    let bytes = output.get(..case.size).expect(rt, "room for the bytes");
+    let opened = open(bytes).expect(rt, "a module");
+    assert_eq!(rt; opened.counts().image, case.parts.image.len());
+    assert!(rt; bytes.ends_with(case.parts.image));
+    holds(rt, &output, bytes, &OTHER_BYTE);
 }
 
 #[test]
-fn images_of_all_lengths_with_64_routines(rt: HostRuntime) -> Result<(), Fail> {
-    many_routines(&rt, &[], 1028)?;
-    many_routines(&rt, &[7], 1029)?;
-    many_routines(&rt, &[7; 4096], 5124)
-}
-
-// Packs what the check refuses.
-fn packed_and_refused(rt: &impl Abort, parts: Parts<'_>, wanted: Refusal) {
-    let mut output = [OTHER_BYTE; 111];
-    let mut sheet = [ShapeRow { depth: 7, mask: 7 }; 12];
-    let mut back_entries = [OTHER_ENTRY; 2];
-    let mut back_rows = [OTHER_ROW; 11];
-    let back = recover(
-        parts,
-        &mut output,
-        &mut sheet,
-        &mut back_entries,
-        &mut back_rows,
-    );
-    assert_eq!(rt; back, Err(wanted));
-    assert_eq!(rt; output[110], 0xC8);
-    assert!(rt; sheet[0..11] == [ShapeRow::BLANK; 11]);
-    assert_eq!(rt; sheet[11].depth, 7);
-    assert!(rt; back_entries == [OTHER_ENTRY; 2]);
-    assert!(rt; back_rows == [OTHER_ROW; 11]);
-}
-
-#[test]
-fn recover_is_refused_by_the_check(rt: HostRuntime) {
-    let mut absent = two_routines();
-    absent.rows[5] = row(22, 0, 0, 0, 2);
-    packed_and_refused(&rt, absent.parts(), Refusal::Callee(place(0, 5)));
-    let mut deep = two_routines();
-    deep.rows[9] = row(3, 0, 2, 0, 0);
-    packed_and_refused(&rt, deep.parts(), Refusal::Register(place(1, 1)));
-    let mut far = two_routines();
-    far.rows[8] = row(20, 0, 1, 0, 3);
-    packed_and_refused(&rt, far.parts(), Refusal::Target(place(1, 0)));
-    let mut moved = two_routines();
-    moved.entries = [entry(7, 0, 0), entry(4, 2, 1)];
-    packed_and_refused(&rt, moved.parts(), Refusal::Ending(place(0, 6)));
+fn recover_gives_the_parts_back(rt: HostRuntime) {
+    for case in &RECOVERED {
+        recovers(&rt, case);
+    }
 }

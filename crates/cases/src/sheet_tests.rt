@@ -1,5 +1,6 @@
-use crate::answers::{Refused, answer};
-use crate::build::RAMP;
+use crate::answers::{Case, Refused, answers_over};
+use crate::build::Given::{self, Ramp, Single};
+use isa::instr::Instr;
 use module::shape::ShapeRow;
 use std::process::Abort;
 
@@ -8,6 +9,14 @@ const OTHER: ShapeRow = ShapeRow {
     depth: 777,
     mask: 0xABCD_EF01,
 };
+
+const BLANK: ShapeRow = ShapeRow::BLANK;
+
+const UNTOUCHED: [ShapeRow; 9] = [OTHER; 9];
+
+const BLANKED: [ShapeRow; 9] = [
+    BLANK, BLANK, BLANK, BLANK, BLANK, BLANK, OTHER, OTHER, OTHER,
+];
 
 // Six rows of the ramp, and three more.
 const FILLED: [ShapeRow; 9] = [
@@ -23,50 +32,55 @@ const FILLED: [ShapeRow; 9] = [
 ];
 
 // A ramp that writes its constant: broken at instruction 2.
-fn broken() -> [u8; 60] {
-    let mut bytes = RAMP;
-    bytes[28] = 3;
-    bytes[29] = 1;
-    bytes
-}
+const BROKEN: Given<'static> = Single(&[
+    Instr::New,
+    Instr::Def { n: 1200 },
+    Instr::Mov { a: 1, b: 1 },
+    Instr::Tick,
+    Instr::Get { a: 0, c: 2 },
+    Instr::Ret { a: 0 },
+]);
 
-fn over(rt: &impl Abort, bytes: &[u8], sheet: &mut [ShapeRow], wanted: Result<(), Refused>) {
-    assert_eq!(rt; answer(bytes, sheet), wanted);
+// A case, and the first of the rows that the sheet then holds.
+type Check = (Case, [ShapeRow; 9]);
+
+// Three rows more than the ramp has instructions.
+static NINE_ROWS: [Check; 4] = [
+    ((Ramp(60), Ok(())), FILLED),
+    ((BROKEN, Err(Refused(9, 1, 0, 2))), BLANKED),
+    ((Ramp(60), Ok(())), FILLED),
+    ((Ramp(59), Err(Refused(4, 1, 0, 0))), FILLED),
+];
+
+// Just as many.
+static SIX_ROWS: [Check; 3] = [
+    ((Ramp(59), Err(Refused(4, 1, 0, 0))), UNTOUCHED),
+    ((Ramp(60), Ok(())), FILLED),
+    ((BROKEN, Err(Refused(9, 1, 0, 2))), BLANKED),
+];
+
+// One row short.
+static FIVE_ROWS: [Check; 2] = [
+    ((Ramp(60), Err(Refused(12, 0, 0, 0))), UNTOUCHED),
+    ((BROKEN, Err(Refused(12, 0, 0, 0))), UNTOUCHED),
+];
+
+static NO_ROWS: [Check; 1] = [((Ramp(60), Err(Refused(12, 0, 0, 0))), UNTOUCHED)];
+
+// Makes these checks, one after the other, over one sheet of so many rows.
+fn over<R: Abort + AllocGlobal>(rt: &R, rows: usize, checks: &[Check]) {
+    let mut sheet = UNTOUCHED;
+    assert!(rt; rows <= 9);
+    for (case, filled) in checks {
+        answers_over(rt, case, &mut sheet[..rows]);
+        assert!(rt; sheet[..rows] == filled[..rows]);
+    }
 }
 
 #[test]
-fn a_sheet_with_three_rows_more(rt: HostRuntime) {
-    let mut sheet = [OTHER; 9];
-    over(&rt, &RAMP, &mut sheet, Ok(()));
-    assert!(rt; sheet == FILLED);
-    over(&rt, &broken(), &mut sheet, Err(Refused(9, 1, 0, 2)));
-    assert!(rt; sheet[0..6] == [ShapeRow::BLANK; 6]);
-    assert!(rt; sheet[6..9] == [OTHER; 3]);
-    over(&rt, &RAMP, &mut sheet, Ok(()));
-    over(&rt, &RAMP[0..59], &mut sheet, Err(Refused(4, 1, 0, 0)));
-    assert!(rt; sheet == FILLED);
-}
-
-#[test]
-fn a_sheet_of_just_the_length(rt: HostRuntime) {
-    let mut sheet = [OTHER; 6];
-    over(&rt, &RAMP[0..59], &mut sheet, Err(Refused(4, 1, 0, 0)));
-    assert!(rt; sheet == [OTHER; 6]);
-    over(&rt, &RAMP, &mut sheet, Ok(()));
-    assert!(rt; sheet[..] == FILLED[0..6]);
-    over(&rt, &broken(), &mut sheet, Err(Refused(9, 1, 0, 2)));
-    assert!(rt; sheet == [ShapeRow::BLANK; 6]);
-}
-
-#[test]
-fn a_sheet_one_row_short(rt: HostRuntime) {
-    let mut sheet = [OTHER; 5];
-    over(&rt, &RAMP, &mut sheet, Err(Refused(12, 0, 0, 0)));
-    over(&rt, &broken(), &mut sheet, Err(Refused(12, 0, 0, 0)));
-    assert!(rt; sheet == [OTHER; 5]);
-}
-
-#[test]
-fn a_sheet_without_rows(rt: HostRuntime) {
-    over(&rt, &RAMP, &mut [], Err(Refused(12, 0, 0, 0)));
+fn sheets_of_nine_six_five_and_no_rows(rt: HostRuntime) {
+    over(&rt, 9, &NINE_ROWS);
+    over(&rt, 6, &SIX_ROWS);
+    over(&rt, 5, &FIVE_ROWS);
+    over(&rt, 0, &NO_ROWS);
 }

@@ -1,202 +1,181 @@
-use crate::code::{OVER, at, endless, order_fault, ramp, start, tripped};
-use crate::seen::{Seen, listed, look, ports};
-use drive::call::{Answer, Call};
-use drive::drive::Drive;
+use crate::code::{ENDLESS, MARKED, RAMP, STEEP_RAMP, Source, TRIP, TRIPPED};
+use crate::scenario::Line::{Anew, Made, Order, Ports, Tick, Times};
+use crate::scenario::{BEGUN, Scenario, Told, play_each};
+use drive::call::Call::{Grant, PowerCycle, Restart};
 use faults::fault::Fault;
-use host::Host;
-use host::axis::AxisHost;
-use machine::machine::State;
+use machine::machine::State::{Ended, Running};
+use refusal::Refusal;
 use std::process::Abort;
 use std::test::Fail;
 
-// Makes a call by its own method.
-fn make<H: Host>(drive: &mut Drive, host: &mut H, call: Call) -> Answer {
-    match call {
-        Call::Grant { fuel } => drive.grant(host, fuel),
-        Call::Restart => drive.restart(),
-        Call::PowerCycle => Ok(drive.power_cycle(host)),
-    }
-}
+// Fuel outside 1 to 10,000.
+const NO_FUEL: [Told; 3] = [
+    (Grant { fuel: 0 }, Err(Refusal::Fuel)),
+    (Grant { fuel: 10_001 }, Err(Refusal::Fuel)),
+    (Grant { fuel: u32::MAX }, Err(Refusal::Fuel)),
+];
 
-// Wants this answer to be the refusal with this number, which the caller causes and which has no place.
-fn is_refusal(rt: &impl Abort, answer: Answer, number: u8) {
-    let told = answer.map_err(|refusal| {
-        (
-            refusal.number(),
-            u8::from(refusal.layer()),
-            refusal.routine(),
-            refusal.instruction(),
-        )
-    });
-    assert_eq!(rt; told, Err((number, 0, 0, 0)));
-}
+const STEP: Told = (Grant { fuel: 1 }, Ok((1, Running)));
 
-// Wants a call to be refused, in both ways of making it, and to change nothing.
-fn refuses<H: Host>(rt: &impl Abort, drive: &mut Drive, host: &mut H, call: Call, number: u8) {
-    let before = look(drive, host);
-    is_refusal(rt, drive.call(host, call), number);
-    assert!(rt; look(drive, host) == before);
-    is_refusal(rt, make(drive, host, call), number);
-    assert!(rt; look(drive, host) == before);
-}
-
-// Orders and steps with which the ramp runs, has ended, and has tripped.
-const STANDINGS: [(u32, u32); 4] = [(1200, 1), (1200, 5), (1200, 6), (4000, 3)];
-
-const NO_FUEL: [u32; 3] = [0, 10_001, u32::MAX];
+static SCENARIOS: [Scenario; 10] = [
+    Scenario {
+        name: "no fuel after the first step",
+        module: RAMP,
+        calls: &NO_FUEL,
+        lines: &[
+            Made(Grant { fuel: 1 }, Ok((1, Running))),
+            Times(1, &NO_FUEL),
+        ],
+    },
+    Scenario {
+        name: "no fuel before the last step",
+        module: RAMP,
+        calls: &NO_FUEL,
+        lines: &[
+            Made(Grant { fuel: 5 }, Ok((5, Running))),
+            Times(1, &NO_FUEL),
+        ],
+    },
+    Scenario {
+        name: "no fuel after the end",
+        module: RAMP,
+        calls: &NO_FUEL,
+        lines: &[Made(Grant { fuel: 6 }, Ok((6, Ended))), Times(1, &NO_FUEL)],
+    },
+    Scenario {
+        name: "no fuel after a trip",
+        module: STEEP_RAMP,
+        calls: &NO_FUEL,
+        lines: &[
+            Made(Grant { fuel: 3 }, Ok((3, TRIPPED))),
+            Times(1, &NO_FUEL),
+        ],
+    },
+    Scenario {
+        name: "the least and the most fuel",
+        module: ENDLESS,
+        calls: &[
+            (Grant { fuel: 1 }, Ok((1, Running))),
+            (Grant { fuel: 1 }, Ok((1, Running))),
+            (Grant { fuel: 10_000 }, Ok((10_000, Running))),
+            (Grant { fuel: 10_000 }, Ok((10_000, Running))),
+            (Grant { fuel: 9_999 }, Ok((9_999, Running))),
+            (Grant { fuel: 9_999 }, Ok((9_999, Running))),
+            (Grant { fuel: 2 }, Ok((2, Running))),
+            (Grant { fuel: 2 }, Ok((2, Running))),
+        ],
+        lines: &[],
+    },
+    Scenario {
+        name: "a grant after the end",
+        module: RAMP,
+        calls: &[
+            (Grant { fuel: 10_000 }, Ok((6, Ended))),
+            (Grant { fuel: 1 }, Err(Refusal::Ended)),
+            (Grant { fuel: 10_000 }, Err(Refusal::Ended)),
+        ],
+        lines: &[],
+    },
+    Scenario {
+        name: "a grant after a trip",
+        module: STEEP_RAMP,
+        calls: &[
+            (Grant { fuel: 10_000 }, Ok((3, TRIPPED))),
+            (Grant { fuel: 1 }, Err(Refusal::Tripped)),
+            (Grant { fuel: 10_000 }, Err(Refusal::Tripped)),
+        ],
+        lines: &[],
+    },
+    Scenario {
+        name: "a restart while running",
+        module: RAMP,
+        calls: &[],
+        lines: &[
+            Times(5, &[(Restart, Err(Refusal::Running)), STEP]),
+            Made(Restart, Err(Refusal::Running)),
+        ],
+    },
+    Scenario {
+        name: "a restart after the end",
+        module: RAMP,
+        calls: &[(Grant { fuel: 10_000 }, Ok((6, Ended)))],
+        lines: &[
+            Ports(&[1200, 50, 50, 50]),
+            Made(Restart, BEGUN),
+            Anew(&[], &[1200, 50, 50, 50]),
+            Made(Grant { fuel: 10_000 }, Ok((6, Ended))),
+            Ports(&[1200, 50, 100, 150]),
+            Made(Restart, BEGUN),
+        ],
+    },
+    Scenario {
+        name: "a restart after a trip keeps the fault",
+        module: STEEP_RAMP,
+        calls: &[],
+        lines: &[
+            Order(0, 70),
+            Tick,
+            Made(Grant { fuel: 10_000 }, Ok((3, TRIPPED))),
+            Made(Restart, BEGUN),
+            Anew(&[TRIP], &[70, 50, 50, 50]),
+            Made(Grant { fuel: 10_000 }, Ok((3, TRIPPED))),
+            Made(Restart, BEGUN),
+            Anew(&[TRIP, TRIP], &[70, 50, 50, 50]),
+        ],
+    },
+];
 
 #[test]
-fn fuel_outside_1_to_10000_is_refused_in_every_state(rt: HostRuntime) -> Result<(), Fail> {
-    for (n, steps) in STANDINGS {
-        let mut bytes = [0; 64];
-        let module = ramp(&rt, n, &mut bytes)?;
-        let mut axis = AxisHost::new();
-        let mut drive = start(module)?;
-        for fuel in NO_FUEL {
-            refuses(&rt, &mut drive, &mut axis, Call::Grant { fuel }, 14);
-        }
-        assert!(rt; drive.grant(&mut axis, steps).is_ok());
-        for fuel in NO_FUEL {
-            refuses(&rt, &mut drive, &mut axis, Call::Grant { fuel }, 14);
-        }
-    }
-    Ok(())
+fn every_call_as_the_state_has_it(rt: HostRuntime) -> Result<(), Fail> {
+    play_each(&rt, &SCENARIOS)
 }
 
-#[test]
-fn the_least_and_the_most_fuel(rt: HostRuntime) -> Result<(), Fail> {
-    let mut bytes = [0; 64];
-    let module = endless(&rt, &mut bytes)?;
-    let mut axis = AxisHost::new();
-    let mut drive = start(module)?;
-    for fuel in [1, 10_000, 9_999, 2] {
-        assert_eq!(rt;
-            drive.call(&mut axis, Call::Grant { fuel }),
-            Ok((fuel, State::Running))
-        );
-        assert_eq!(rt; drive.grant(&mut axis, fuel), Ok((fuel, State::Running)));
-    }
-    Ok(())
-}
+// A ramp's steps, one at a time.
+const STEPS: [Told; 6] = [
+    STEP,
+    STEP,
+    STEP,
+    STEP,
+    STEP,
+    (Grant { fuel: 1 }, Ok((1, Ended))),
+];
 
-#[test]
-fn a_grant_is_refused_after_the_end_and_after_a_trip(rt: HostRuntime) -> Result<(), Fail> {
-    for (n, number) in [(1200, 15), (4000, 16)] {
-        let mut bytes = [0; 64];
-        let module = ramp(&rt, n, &mut bytes)?;
-        let mut axis = AxisHost::new();
-        let mut drive = start(module)?;
-        assert!(rt; drive.grant(&mut axis, 10_000).is_ok());
-        for fuel in [1, 10_000] {
-            refuses(&rt, &mut drive, &mut axis, Call::Grant { fuel }, number);
-        }
-    }
-    Ok(())
-}
+const STEPS_TO_TRIP: [Told; 3] = [STEP, STEP, (Grant { fuel: 1 }, Ok((1, TRIPPED)))];
 
-#[test]
-fn a_restart_is_refused_while_running(rt: HostRuntime) -> Result<(), Fail> {
-    let mut bytes = [0; 64];
-    let module = ramp(&rt, 1200, &mut bytes)?;
-    let mut axis = AxisHost::new();
-    let mut drive = start(module)?;
-    for _step in 0..5 {
-        refuses(&rt, &mut drive, &mut axis, Call::Restart, 17);
-        assert_eq!(rt; drive.grant(&mut axis, 1), Ok((1, State::Running)));
-    }
-    refuses(&rt, &mut drive, &mut axis, Call::Restart, 17);
-    Ok(())
-}
-
-#[test]
-fn a_restart_after_the_end(rt: HostRuntime) -> Result<(), Fail> {
-    let mut bytes = [0; 64];
-    let module = ramp(&rt, 1200, &mut bytes)?;
-    let mut axis = AxisHost::new();
-    let mut drive = start(module)?;
-    let new = look(&drive, &axis);
-    assert_eq!(rt; drive.grant(&mut axis, 10_000), Ok((6, State::Ended)));
-    let before = ports(&axis);
-    assert_eq!(rt; drive.restart(), Ok((0, State::Running)));
-    assert!(rt;
-        look(&drive, &axis)
-            == Seen {
-                ports: before,
-                ..new
-            }
-    );
-    assert_eq!(rt; drive.grant(&mut axis, 10_000), Ok((6, State::Ended)));
-    assert!(rt; ports(&axis) == [Some(1200), Some(50), Some(100), Some(150), None]);
-    assert_eq!(rt;
-        drive.call(&mut axis, Call::Restart),
-        Ok((0, State::Running))
-    );
-    Ok(())
-}
-
-// Wants a run to trip, and a restart after it to leave these faults and to touch nothing of the host.
-fn trips_and_restarts(
+// Wants a power cycle after these calls to begin the run again, with these faults, over a moving axis that it rests.
+fn cycles<'a>(
     rt: &impl Abort,
-    drive: &mut Drive,
-    axis: &mut AxisHost,
-    new: &Seen,
-    faults: &[Fault],
-) {
-    let state = tripped(OVER, at(0, 2));
-    assert_eq!(rt; drive.grant(axis, 10_000), Ok((3, state)));
-    assert_eq!(rt; drive.restart(), Ok((0, State::Running)));
-    let wanted = Seen {
-        faults: listed(faults),
-        ..*new
+    module: Source<'a>,
+    calls: &'a [Told],
+    faults: &'a [Fault],
+    ports: &'a [u32],
+) -> Result<(), Fail> {
+    let scenario = Scenario {
+        name: "a power cycle",
+        module,
+        calls: &[],
+        lines: &[
+            Order(1, 500),
+            Order(0, 70),
+            Tick,
+            Times(1, calls),
+            Made(PowerCycle, BEGUN),
+            Anew(faults, ports),
+        ],
     };
-    assert!(rt; look(drive, axis) == wanted);
-}
-
-#[test]
-fn a_restart_after_a_trip_keeps_the_fault(rt: HostRuntime) -> Result<(), Fail> {
-    let mut bytes = [0; 64];
-    let module = ramp(&rt, 4000, &mut bytes)?;
-    let mut axis = AxisHost::new();
-    assert_eq!(rt; axis.write(0, 70), Ok(()));
-    axis.tick();
-    let mut drive = start(module)?;
-    let new = look(&drive, &axis);
-    let faults = [order_fault(false), order_fault(false)];
-    trips_and_restarts(&rt, &mut drive, &mut axis, &new, &faults[..1]);
-    trips_and_restarts(&rt, &mut drive, &mut axis, &new, &faults);
+    scenario.play_over_axis(rt)?;
     Ok(())
 }
 
-// Wants a power cycle of a ramp after so many steps to begin the run again, with these faults, over an axis that it rests.
-fn cycles(rt: &impl Abort, n: u32, steps: u32, faults: &[Fault]) -> Result<(), Fail> {
-    let mut bytes = [0; 64];
-    let module = ramp(rt, n, &mut bytes)?;
-    let mut axis = AxisHost::new();
-    let mut drive = start(module)?;
-    let new = look(&drive, &axis);
-    assert_eq!(rt; axis.write(1, 500), Ok(()));
-    assert_eq!(rt; axis.write(0, 70), Ok(()));
-    axis.tick();
-    for _ in 0..steps {
-        assert!(rt; drive.grant(&mut axis, 1).is_ok());
-    }
-    let speed = axis.read(2).ok();
-    let position = axis.read(3).ok();
-    assert_eq!(rt; drive.power_cycle(&mut axis), (0, State::Running));
-    let wanted = Seen {
-        faults: listed(faults),
-        ports: [Some(0), Some(50), speed, position, None],
-        ..new
-    };
-    assert!(rt; look(&drive, &axis) == wanted);
-    Ok(())
-}
-
+// The tick before the run gives the axis a speed of 70, and the fourth step of the ramp one of 570.
 #[test]
 fn a_power_cycle_in_every_state(rt: HostRuntime) -> Result<(), Fail> {
-    for steps in 0..7 {
-        cycles(&rt, 1200, steps, &[])?;
+    for made in 0..4 {
+        cycles(&rt, RAMP, &STEPS[..made], &[], &[0, 50, 70, 70])?;
     }
-    cycles(&rt, 4000, 2, &[])?;
-    cycles(&rt, 4000, 3, &[order_fault(true)])
+    for made in 4..7 {
+        cycles(&rt, RAMP, &STEPS[..made], &[], &[0, 50, 570, 640])?;
+    }
+    cycles(&rt, STEEP_RAMP, &STEPS_TO_TRIP[..2], &[], &[0, 50, 70, 70])?;
+    cycles(&rt, STEEP_RAMP, &STEPS_TO_TRIP, &[MARKED], &[0, 50, 70, 70])
 }

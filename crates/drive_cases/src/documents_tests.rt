@@ -1,17 +1,16 @@
 //! The worked examples of docs/DRIVE.md and docs/LAW.md.
 
-use crate::answered::{BEGUN, answers, grant};
-use crate::code::{OVER, at, checked, ramp, start, tripped};
+use crate::code::{MARKED, OVER, RAMP, STEEP_RAMP, THIRD, TRIP, TRIPPED, checked, module_of};
 use crate::program;
-use crate::seen::look;
-use drive::call::{Answer, Call};
-use drive::drive::Drive;
-use host::Host;
+use crate::scenario::Line::{At, Depth, Faults, Made, Nowhere, Ports, Times};
+use crate::scenario::{BEGUN, Scenario, Told, are_told, play_alike, play_each};
+use crate::seen::{listed, look};
+use drive::call::Call::{Grant, PowerCycle, Restart};
 use host::axis::AxisHost;
-use machine::machine::State;
+use host::port::HostRefusal;
+use machine::machine::State::{Ended, Running};
 use module::shape::ShapeRow;
 use refusal::{Place, Refusal};
-use std::process::Abort;
 use std::test::Fail;
 
 // The sample module, as it stands in DRIVE.md, "Grant".
@@ -33,144 +32,137 @@ const SAMPLE: [u8; 60] = [
     0x17, 0x00, 0x00, 0x00, 0x00, 0x00, 0x00, 0x00,
 ];
 
-// The same with the order raised to 4,000, as in "Faults over calls".
-fn raised() -> [u8; 60] {
-    let mut bytes = SAMPLE;
-    bytes[24] = 0xA0;
-    bytes[25] = 0x0F;
-    bytes
-}
-
-fn running(steps: u32) -> Answer {
-    Ok((steps, State::Running))
-}
-
-fn ended(steps: u32) -> Answer {
-    Ok((steps, State::Ended))
-}
-
+// The scenarios below are of these modules: the sample, and the same with the order raised to 4,000, as in "Faults over calls".
 #[test]
 fn the_instructions_of_the_sample(rt: HostRuntime) -> Result<(), Fail> {
+    let mut raised = SAMPLE;
+    raised[24] = 0xA0;
+    raised[25] = 0x0F;
     let mut bytes = [0; 64];
-    assert!(rt; ramp(&rt, 1200, &mut bytes)? == SAMPLE.as_slice());
-    assert!(rt; ramp(&rt, 4000, &mut bytes)? == raised().as_slice());
+    assert!(rt; module_of(&rt, RAMP, &mut bytes)? == SAMPLE.as_slice());
+    assert!(rt; module_of(&rt, STEEP_RAMP, &mut bytes)? == raised.as_slice());
     Ok(())
 }
 
-// Wants this place and depth, and these values of ports 0 to 3.
-fn stands(
-    rt: &impl Abort,
-    drive: &Drive,
-    axis: &AxisHost,
-    place: Result<Place, Refusal>,
-    depth: usize,
-    ports: [u32; 4],
-) {
-    assert_eq!(rt; drive.place(), place);
-    assert_eq!(rt; drive.depth(), depth);
-    for (p, value) in ports.iter().enumerate() {
-        assert_eq!(rt; axis.read(p), Ok(*value));
-    }
-}
-
-// The table of DRIVE.md, "Grant": a call, its answer, and the place, the depth and ports 0 to 3 afterwards.
+// Each fault in "Faults over calls" is `6 3 0 2 0` and its mark.
 #[test]
-fn the_sample_call_by_call(rt: HostRuntime) -> Result<(), Fail> {
-    let none = Err(Refusal::Absent);
-    let table = [
-        (grant(4), running(4), Ok(at(0, 4)), 2, [1200, 50, 50, 50]),
-        (grant(4), ended(2), none, 0, [1200, 50, 50, 50]),
-        (grant(4), Err(Refusal::Ended), none, 0, [1200, 50, 50, 50]),
-        (grant(0), Err(Refusal::Fuel), none, 0, [1200, 50, 50, 50]),
-        (Call::Restart, BEGUN, Ok(at(0, 0)), 0, [1200, 50, 50, 50]),
-        (grant(10_000), ended(6), none, 0, [1200, 50, 100, 150]),
-        (Call::PowerCycle, BEGUN, Ok(at(0, 0)), 0, [0, 50, 100, 150]),
-        (
-            Call::Restart,
-            Err(Refusal::Running),
-            Ok(at(0, 0)),
-            0,
-            [0, 50, 100, 150],
-        ),
-        (grant(3), running(3), Ok(at(0, 3)), 2, [1200, 50, 100, 150]),
-    ];
-    let mut axis = AxisHost::new();
-    let mut drive = start(&SAMPLE)?;
-    stands(&rt, &drive, &axis, Ok(at(0, 0)), 0, [0, 50, 0, 0]);
-    for (call, answer, place, depth, ports) in table {
-        assert_eq!(rt; drive.call(&mut axis, call), answer);
-        stands(&rt, &drive, &axis, place, depth, ports);
-    }
-    Ok(())
+fn the_numbers_of_the_fault(rt: HostRuntime) {
+    assert!(rt; OVER.number() == 6);
+    assert!(rt; u8::from(OVER.layer()) == 3);
+    assert!(rt; OVER.detail() == 0);
+    assert!(rt; TRIP.cause == OVER && MARKED.cause == OVER);
+    assert!(rt; TRIP.place == THIRD && MARKED.place == THIRD);
+    assert!(rt; TRIP.mark() == 0 && MARKED.mark() == 1);
 }
 
-// Wants faults with the numbers 6 3 0 2 0 and these marks, and none after them.
-fn has_marks(rt: &impl Abort, drive: &Drive, marks: &[u8]) -> Result<(), Fail> {
-    for (i, mark) in marks.iter().enumerate() {
-        let fault = drive.fault(i)?;
-        assert_eq!(rt;
-            (fault.cause.number(), u8::from(fault.cause.layer())),
-            (6, 3)
-        );
-        assert_eq!(rt; fault.place, at(0, 2));
-        assert_eq!(rt; fault.cause.detail(), 0);
-        assert_eq!(rt; fault.mark(), *mark);
-    }
-    assert_eq!(rt; drive.fault(marks.len()), Err(Refusal::Absent));
-    Ok(())
-}
+static SCENARIOS: [Scenario; 3] = [
+    // The table of DRIVE.md, "Grant": a call and its answer, and the place, the depth and ports 0 to 3 afterwards.
+    Scenario {
+        name: "the sample call by call",
+        module: RAMP,
+        calls: &[],
+        lines: &[
+            At(0, 0),
+            Depth(0),
+            Ports(&[0, 50, 0, 0]),
+            Made(Grant { fuel: 4 }, Ok((4, Running))),
+            At(0, 4),
+            Depth(2),
+            Ports(&[1200, 50, 50, 50]),
+            Made(Grant { fuel: 4 }, Ok((2, Ended))),
+            Nowhere,
+            Depth(0),
+            Ports(&[1200, 50, 50, 50]),
+            Made(Grant { fuel: 4 }, Err(Refusal::Ended)),
+            Nowhere,
+            Depth(0),
+            Ports(&[1200, 50, 50, 50]),
+            Made(Grant { fuel: 0 }, Err(Refusal::Fuel)),
+            Nowhere,
+            Depth(0),
+            Ports(&[1200, 50, 50, 50]),
+            Made(Restart, BEGUN),
+            At(0, 0),
+            Depth(0),
+            Ports(&[1200, 50, 50, 50]),
+            Made(Grant { fuel: 10_000 }, Ok((6, Ended))),
+            Nowhere,
+            Depth(0),
+            Ports(&[1200, 50, 100, 150]),
+            Made(PowerCycle, BEGUN),
+            At(0, 0),
+            Depth(0),
+            Ports(&[0, 50, 100, 150]),
+            Made(Restart, Err(Refusal::Running)),
+            At(0, 0),
+            Depth(0),
+            Ports(&[0, 50, 100, 150]),
+            Made(Grant { fuel: 3 }, Ok((3, Running))),
+            At(0, 3),
+            Depth(2),
+            Ports(&[1200, 50, 100, 150]),
+        ],
+    },
+    // The table of DRIVE.md, "Faults over calls": a call and its answer, and the faults afterwards.
+    Scenario {
+        name: "marks over calls",
+        module: STEEP_RAMP,
+        calls: &[],
+        lines: &[
+            Made(Grant { fuel: 10 }, Ok((3, TRIPPED))),
+            Faults(&[TRIP]),
+            Made(Grant { fuel: 10 }, Err(Refusal::Tripped)),
+            Faults(&[TRIP]),
+            Made(Restart, BEGUN),
+            Faults(&[TRIP]),
+            Made(Grant { fuel: 2 }, Ok((2, Running))),
+            Faults(&[TRIP]),
+            Made(Grant { fuel: 10 }, Ok((1, TRIPPED))),
+            Faults(&[TRIP, TRIP]),
+            Made(PowerCycle, BEGUN),
+            Faults(&[MARKED, MARKED]),
+            Made(Grant { fuel: 3 }, Ok((3, TRIPPED))),
+            Faults(&[MARKED, MARKED, TRIP]),
+            Made(Restart, BEGUN),
+            Faults(&[MARKED, MARKED, TRIP]),
+            Made(Grant { fuel: 3 }, Ok((3, TRIPPED))),
+            Faults(&[MARKED, MARKED, TRIP, TRIP]),
+            Made(PowerCycle, BEGUN),
+            Faults(&[MARKED, MARKED]),
+            Made(PowerCycle, BEGUN),
+            Faults(&[]),
+        ],
+    },
+    // The paragraph after that table.
+    Scenario {
+        name: "twenty trips and three more",
+        module: STEEP_RAMP,
+        calls: &[],
+        lines: &[
+            Times(
+                20,
+                &[(Grant { fuel: 3 }, Ok((3, TRIPPED))), (Restart, BEGUN)],
+            ),
+            Faults(&[TRIP; 16]),
+            Made(PowerCycle, BEGUN),
+            Faults(&[MARKED; 16]),
+            Times(
+                3,
+                &[(Grant { fuel: 3 }, Ok((3, TRIPPED))), (Restart, BEGUN)],
+            ),
+            Faults(&[
+                MARKED, MARKED, MARKED, MARKED, MARKED, MARKED, MARKED, MARKED, MARKED, MARKED,
+                MARKED, MARKED, MARKED, TRIP, TRIP, TRIP,
+            ]),
+            Made(PowerCycle, BEGUN),
+            Faults(&[MARKED; 3]),
+        ],
+    },
+];
 
-// The table of DRIVE.md, "Faults over calls": a call, its answer, and the marks afterwards.
 #[test]
-fn marks_over_calls(rt: HostRuntime) -> Result<(), Fail> {
-    let trip = tripped(OVER, at(0, 2));
-    let table: [(Call, Answer, &[u8]); 11] = [
-        (grant(10), Ok((3, trip)), &[0]),
-        (grant(10), Err(Refusal::Tripped), &[0]),
-        (Call::Restart, BEGUN, &[0]),
-        (grant(2), running(2), &[0]),
-        (grant(10), Ok((1, trip)), &[0, 0]),
-        (Call::PowerCycle, BEGUN, &[1, 1]),
-        (grant(3), Ok((3, trip)), &[1, 1, 0]),
-        (Call::Restart, BEGUN, &[1, 1, 0]),
-        (grant(3), Ok((3, trip)), &[1, 1, 0, 0]),
-        (Call::PowerCycle, BEGUN, &[1, 1]),
-        (Call::PowerCycle, BEGUN, &[]),
-    ];
-    let module = raised();
-    let mut axis = AxisHost::new();
-    let mut drive = start(&module)?;
-    for (call, answer, marks) in table {
-        assert_eq!(rt; drive.call(&mut axis, call), answer);
-        has_marks(&rt, &drive, marks)?;
-    }
-    Ok(())
-}
-
-// Trips so many times, and restarts after each.
-fn trip(drive: &mut Drive, axis: &mut AxisHost, trips: u32) -> Result<(), Fail> {
-    for _ in 0..trips {
-        drive.grant(axis, 3)?;
-        drive.restart()?;
-    }
-    Ok(())
-}
-
-// The paragraph after that table.
-#[test]
-fn twenty_trips_and_three_more(rt: HostRuntime) -> Result<(), Fail> {
-    let module = raised();
-    let mut axis = AxisHost::new();
-    let mut drive = start(&module)?;
-    trip(&mut drive, &mut axis, 20)?;
-    has_marks(&rt, &drive, &[0; 16])?;
-    drive.power_cycle(&mut axis);
-    has_marks(&rt, &drive, &[1; 16])?;
-    trip(&mut drive, &mut axis, 3)?;
-    let thirteen_and_three = [1, 1, 1, 1, 1, 1, 1, 1, 1, 1, 1, 1, 1, 0, 0, 0];
-    has_marks(&rt, &drive, &thirteen_and_three)?;
-    drive.power_cycle(&mut axis);
-    has_marks(&rt, &drive, &[1; 3])
+fn calls_of_the_sample(rt: HostRuntime) -> Result<(), Fail> {
+    play_each(&rt, &SCENARIOS)
 }
 
 // What DRIVE.md, "A program", says of `ramp`: a sheet of five rows is refused.
@@ -181,43 +173,61 @@ fn the_program_ramps(rt: HostRuntime) {
         program::ramp(&SAMPLE, &mut sheet[..5]),
         Err(Refusal::Sheet)
     );
-    assert_eq!(rt; program::ramp(&SAMPLE, &mut sheet), ended(6));
+    assert_eq!(rt; program::ramp(&SAMPLE, &mut sheet), Ok((6, Ended)));
 }
+
+static WANTED: [Told; 3] = [
+    (Grant { fuel: 10_000 }, Ok((6, Ended))),
+    (Restart, BEGUN),
+    (Grant { fuel: 1 }, Ok((1, Running))),
+];
 
 // And of `twice`.
 #[test]
 fn the_program_runs_twice(rt: HostRuntime) -> Result<(), Fail> {
     let mut axis = AxisHost::new();
-    let (drive, answers) = program::twice(checked(&SAMPLE)?, &mut axis);
-    let wanted: [Answer; 3] = [ended(6), BEGUN, running(1)];
-    assert!(rt; answers == wanted.map(Some));
-    stands(&rt, &drive, &axis, Ok(at(0, 1)), 1, [1200, 50, 50, 50]);
-    assert_eq!(rt; drive.register(0), Ok(0));
+    let (drive, turns) = program::twice(checked(&SAMPLE)?, &mut axis);
+    assert!(rt; are_told(&turns, &WANTED));
+    let seen = look(&drive, &axis);
+    let place = Place {
+        routine: 0,
+        instruction: 1,
+    };
+    assert!(rt; seen.place == Ok(place) && seen.depth == 1);
+    assert!(rt; seen.registers == listed(&[0], Refusal::Absent));
+    assert!(rt; seen.ports == listed(&[1200, 50, 50, 50], HostRefusal::NoPort));
     Ok(())
 }
 
 // The two lists of LAW.md, "Where each sentence is": they have the same history, so that the drives are alike.
+static FIRST: Scenario = Scenario {
+    name: "the first list",
+    module: RAMP,
+    calls: &[
+        (Grant { fuel: 10_000 }, Ok((6, Ended))),
+        (Restart, BEGUN),
+        (Grant { fuel: 2 }, Ok((2, Running))),
+    ],
+    lines: &[],
+};
+
+static SECOND: Scenario = Scenario {
+    name: "the second list",
+    module: RAMP,
+    calls: &[
+        (Grant { fuel: 0 }, Err(Refusal::Fuel)),
+        (Restart, Err(Refusal::Running)),
+        (Grant { fuel: 5 }, Ok((5, Running))),
+        (Grant { fuel: 5 }, Ok((1, Ended))),
+        (Grant { fuel: 1 }, Err(Refusal::Ended)),
+        (Restart, BEGUN),
+        (Grant { fuel: 1 }, Ok((1, Running))),
+        (Grant { fuel: 1 }, Ok((1, Running))),
+    ],
+    lines: &[],
+};
+
 #[test]
 fn two_lists_with_the_same_history(rt: HostRuntime) -> Result<(), Fail> {
-    let first = [
-        (grant(10_000), ended(6)),
-        (Call::Restart, BEGUN),
-        (grant(2), running(2)),
-    ];
-    let second = [
-        (grant(0), Err(Refusal::Fuel)),
-        (Call::Restart, Err(Refusal::Running)),
-        (grant(5), running(5)),
-        (grant(5), ended(1)),
-        (grant(1), Err(Refusal::Ended)),
-        (Call::Restart, BEGUN),
-        (grant(1), running(1)),
-        (grant(1), running(1)),
-    ];
-    let mut axis = AxisHost::new();
-    let drive = answers(&rt, &SAMPLE, &mut axis, &first)?;
-    let mut other_axis = AxisHost::new();
-    let other = answers(&rt, &SAMPLE, &mut other_axis, &second)?;
-    assert!(rt; look(&other, &other_axis) == look(&drive, &axis));
-    Ok(())
+    play_alike(&rt, &FIRST, &SECOND)
 }

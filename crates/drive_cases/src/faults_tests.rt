@@ -1,5 +1,8 @@
-use crate::code::{RET, at, load, routine_of, start};
-use crate::seen::{listed, look};
+use crate::code::{RET, Source, module_of, start};
+use crate::scenario::Line::{Faults, Made, Order};
+use crate::scenario::{BEGUN, Scenario, WAYS, play_all};
+use crate::seen::faults;
+use drive::call::Call::{Grant, PowerCycle};
 use drive::drive::Drive;
 use faults::cause::Cause;
 use faults::fault::Fault;
@@ -8,126 +11,250 @@ use host::port::{Flag, Port};
 use host::table::TableHost;
 use isa::instr::{Instr, Width};
 use machine::machine::State;
-use refusal::Refusal;
+use refusal::{Place, Refusal};
 use std::process::Abort;
 use std::test::Fail;
 
 // A port that takes every order, and has no rest value.
-const ORDER: Port = Port {
+const ROWS: [Port; 1] = [Port {
     value: 0,
     low: 0,
     high: u32::MAX,
     flag: Flag::Order,
     rest: None,
-};
+}];
 
 // NEW, GET of port 0, LD from 4096 more than that: it trips at the third step, with the address.
-fn passes<'a>(rt: &impl Abort, bytes: &'a mut [u8]) -> Result<&'a [u8], Fail> {
-    let instrs = [
-        Instr::New,
-        Instr::Get { a: 0, c: 0 },
-        load(Width::One, 0, 0, 4096),
-        RET,
-    ];
-    routine_of(rt, &instrs, bytes)
+const PASSES: Source = Source::Routine(&[
+    Instr::New,
+    Instr::Get { a: 0, c: 0 },
+    Instr::Load {
+        width: Width::One,
+        a: 0,
+        b: 0,
+        n: 4096,
+    },
+    RET,
+]);
+
+// Where it trips.
+const LOADING: Place = Place {
+    routine: 0,
+    instruction: 2,
+};
+
+// What happens to a drive of that module.
+enum Turn {
+    // A run trips for each value of port 0 from one on to before another, and is begun again.
+    Trips { first: u32, end: u32 },
+    PowerCycle,
+    // There are the faults of these values, those before `unmarked` with a mark, and no others.
+    Holds { first: u32, unmarked: u32, end: u32 },
 }
 
-// The fault of a run with this value at port 0.
-fn fault(value: u32, marked: bool) -> Fault {
-    Fault {
-        cause: Cause::MemoryPassed {
-            address: u64::from(value) + 4096,
-        },
-        place: at(0, 2),
-        marked,
+fn cause(value: u32) -> Cause {
+    Cause::MemoryPassed {
+        address: u64::from(value) + 4096,
     }
 }
 
-// Trips once for each value from one on to before another. Each run is begun again.
-fn trip(
-    rt: &impl Abort,
-    drive: &mut Drive,
-    table: &mut TableHost,
-    first: u32,
-    end: u32,
-) -> Result<(), Fail> {
+// Whether a run trips with this value at port 0, and is begun again.
+fn trips(drive: &mut Drive, table: &mut TableHost, value: u32) -> bool {
+    let state = State::Tripped {
+        cause: cause(value),
+        place: LOADING,
+    };
+    table.write(0, value).is_ok()
+        && drive.grant(table, 10_000) == Ok((3, state))
+        && drive.restart() == BEGUN
+}
+
+fn all_trip(drive: &mut Drive, table: &mut TableHost, first: u32, end: u32) -> bool {
     for value in first..end {
-        assert_eq!(rt; table.write(0, value), Ok(()));
-        let (made, _) = drive.grant(table, 10_000)?;
-        assert_eq!(rt; made, 3);
-        assert_eq!(rt; drive.restart(), Ok((0, State::Running)));
+        if !trips(drive, table, value) {
+            return false;
+        }
     }
-    Ok(())
+    true
 }
 
-// Wants the faults of these values, the first ones with a mark, and none after them.
-fn holds(rt: &impl Abort, drive: &Drive, first: u32, unmarked: u32, end: u32) {
-    for (i, value) in (first..end).enumerate() {
-        assert_eq!(rt; drive.fault(i), Ok(fault(value, value < unmarked)));
+fn faults_of(first: u32, unmarked: u32, end: u32) -> [Result<Fault, Refusal>; 21] {
+    let mut faults = [Err(Refusal::Absent); 21];
+    for (place, value) in faults.iter_mut().zip(first..end) {
+        *place = Ok(Fault {
+            cause: cause(value),
+            place: LOADING,
+            marked: value < unmarked,
+        });
     }
-    for i in end.saturating_sub(first)..20 {
-        assert_eq!(rt; drive.fault(i as usize), Err(Refusal::Absent));
+    faults
+}
+
+fn holds(drive: &mut Drive, table: &mut TableHost, turn: &Turn) -> bool {
+    match *turn {
+        Turn::Trips { first, end } => all_trip(drive, table, first, end),
+        Turn::PowerCycle => drive.power_cycle(table) == (0, State::Running),
+        Turn::Holds {
+            first,
+            unmarked,
+            end,
+        } => faults(drive) == faults_of(first, unmarked, end),
     }
+}
+
+static TWENTY_TRIPS_AND_THREE_POWER_CYCLES: [Turn; 10] = [
+    Turn::Trips { first: 0, end: 12 },
+    Turn::Holds {
+        first: 0,
+        unmarked: 0,
+        end: 12,
+    },
+    Turn::PowerCycle,
+    Turn::Holds {
+        first: 0,
+        unmarked: 12,
+        end: 12,
+    },
+    Turn::Trips { first: 12, end: 20 },
+    Turn::Holds {
+        first: 4,
+        unmarked: 12,
+        end: 20,
+    },
+    Turn::PowerCycle,
+    Turn::Holds {
+        first: 12,
+        unmarked: 20,
+        end: 20,
+    },
+    Turn::PowerCycle,
+    Turn::Holds {
+        first: 20,
+        unmarked: 20,
+        end: 20,
+    },
+];
+
+static THE_NEWEST_SIXTEEN_OF_TWENTY_TRIPS: [Turn; 12] = [
+    Turn::Trips { first: 0, end: 16 },
+    Turn::Holds {
+        first: 0,
+        unmarked: 0,
+        end: 16,
+    },
+    Turn::Trips { first: 16, end: 17 },
+    Turn::Holds {
+        first: 1,
+        unmarked: 0,
+        end: 17,
+    },
+    Turn::Trips { first: 17, end: 20 },
+    Turn::Holds {
+        first: 4,
+        unmarked: 0,
+        end: 20,
+    },
+    Turn::PowerCycle,
+    Turn::Holds {
+        first: 4,
+        unmarked: 20,
+        end: 20,
+    },
+    Turn::Trips { first: 20, end: 21 },
+    Turn::Holds {
+        first: 5,
+        unmarked: 20,
+        end: 21,
+    },
+    Turn::PowerCycle,
+    Turn::Holds {
+        first: 20,
+        unmarked: 21,
+        end: 21,
+    },
+];
+
+// Wants all that happens to a new drive to be so.
+fn happens(rt: &impl Abort, turns: &[Turn]) -> Result<(), Fail> {
+    let mut bytes = [0; 64];
+    let module = module_of(rt, PASSES, &mut bytes)?;
+    let mut rows = ROWS;
+    let mut table = TableHost::new(&mut rows);
+    let mut drive = start(module)?;
+    for (i, turn) in turns.iter().enumerate() {
+        let as_told = holds(&mut drive, &mut table, turn);
+        assert!(rt; as_told, "turn {i}");
+    }
+    Ok(())
 }
 
 #[test]
-fn twenty_trips_and_three_power_cycles(rt: HostRuntime) -> Result<(), Fail> {
-    let mut bytes = [0; 64];
-    let module = passes(&rt, &mut bytes)?;
-    let mut rows = [ORDER];
-    let mut table = TableHost::new(&mut rows);
-    let mut drive = start(module)?;
-    trip(&rt, &mut drive, &mut table, 0, 12)?;
-    holds(&rt, &drive, 0, 0, 12);
-    drive.power_cycle(&mut table);
-    holds(&rt, &drive, 0, 12, 12);
-    trip(&rt, &mut drive, &mut table, 12, 20)?;
-    holds(&rt, &drive, 4, 12, 20);
-    drive.power_cycle(&mut table);
-    holds(&rt, &drive, 12, 20, 20);
-    drive.power_cycle(&mut table);
-    holds(&rt, &drive, 20, 20, 20);
-    Ok(())
+fn which_faults_are_kept(rt: HostRuntime) -> Result<(), Fail> {
+    happens(&rt, &TWENTY_TRIPS_AND_THREE_POWER_CYCLES)?;
+    happens(&rt, &THE_NEWEST_SIXTEEN_OF_TWENTY_TRIPS)
 }
 
-#[test]
-fn the_newest_sixteen_of_twenty_trips(rt: HostRuntime) -> Result<(), Fail> {
-    let mut bytes = [0; 64];
-    let module = passes(&rt, &mut bytes)?;
-    let mut rows = [ORDER];
-    let mut table = TableHost::new(&mut rows);
-    let mut drive = start(module)?;
-    trip(&rt, &mut drive, &mut table, 0, 16)?;
-    holds(&rt, &drive, 0, 0, 16);
-    trip(&rt, &mut drive, &mut table, 16, 17)?;
-    holds(&rt, &drive, 1, 0, 17);
-    trip(&rt, &mut drive, &mut table, 17, 20)?;
-    holds(&rt, &drive, 4, 0, 20);
-    drive.power_cycle(&mut table);
-    holds(&rt, &drive, 4, 20, 20);
-    trip(&rt, &mut drive, &mut table, 20, 21)?;
-    holds(&rt, &drive, 5, 20, 21);
-    drive.power_cycle(&mut table);
-    holds(&rt, &drive, 20, 21, 21);
-    Ok(())
-}
+const OF_0: Cause = Cause::MemoryPassed { address: 4096 };
+
+const OF_1: Cause = Cause::MemoryPassed { address: 4097 };
+
+const MARKED_0: Fault = Fault {
+    cause: OF_0,
+    place: LOADING,
+    marked: true,
+};
+
+const FAULT_1: Fault = Fault {
+    cause: OF_1,
+    place: LOADING,
+    marked: false,
+};
+
+static TRIPS_TWICE: [Scenario; 1] = [Scenario {
+    name: "a power cycle of a tripped drive marks its fault",
+    module: PASSES,
+    calls: &[(
+        Grant { fuel: 3 },
+        Ok((
+            3,
+            State::Tripped {
+                cause: OF_0,
+                place: LOADING,
+            },
+        )),
+    )],
+    lines: &[
+        Faults(&[Fault {
+            marked: false,
+            ..MARKED_0
+        }]),
+        Made(PowerCycle, BEGUN),
+        Faults(&[MARKED_0]),
+        Order(0, 1),
+        Made(
+            Grant { fuel: 3 },
+            Ok((
+                3,
+                State::Tripped {
+                    cause: OF_1,
+                    place: LOADING,
+                },
+            )),
+        ),
+        Faults(&[MARKED_0, FAULT_1]),
+        Made(PowerCycle, BEGUN),
+        Faults(&[Fault {
+            marked: true,
+            ..FAULT_1
+        }]),
+    ],
+}];
 
 #[test]
 fn a_power_cycle_of_a_tripped_drive_marks_its_fault(rt: HostRuntime) -> Result<(), Fail> {
-    let mut bytes = [0; 64];
-    let module = passes(&rt, &mut bytes)?;
-    let mut rows = [ORDER];
-    let mut table = TableHost::new(&mut rows);
-    let mut drive = start(module)?;
-    assert!(rt; drive.grant(&mut table, 3).is_ok());
-    assert!(rt; look(&drive, &table).faults == listed(&[fault(0, false)]));
-    assert_eq!(rt; drive.power_cycle(&mut table), (0, State::Running));
-    assert!(rt; look(&drive, &table).faults == listed(&[fault(0, true)]));
-    assert_eq!(rt; table.write(0, 1), Ok(()));
-    assert!(rt; drive.grant(&mut table, 3).is_ok());
-    let both = [fault(0, true), fault(1, false)];
-    assert!(rt; look(&drive, &table).faults == listed(&both));
-    assert_eq!(rt; drive.power_cycle(&mut table), (0, State::Running));
-    assert!(rt; look(&drive, &table).faults == listed(&[fault(1, true)]));
+    for way in WAYS {
+        let mut rows = ROWS;
+        play_all(&rt, way, &mut TableHost::new(&mut rows), &TRIPS_TWICE)?;
+    }
     Ok(())
 }

@@ -1,18 +1,18 @@
-use crate::answered::{BEGUN, answers, grant};
-use crate::code::{OVER, RET, at, order_fault, routine_of, start, tripped};
+use crate::code::{MARKED, RET, Source, TRIPPED, module_of, start};
 use crate::lamp::LampHost;
-use crate::seen::ports;
+use crate::scenario::Line::{At, Faults, Is, Made, Ports, Register};
+use crate::scenario::{BEGUN, Line, Scenario, WAYS, Way, first_wrong, none_wrong, play_all};
+use crate::seen::{listed, look, ports};
 use counter::CounterHost;
-use drive::call::{Answer, Call};
+use drive::call::Call::{Grant, PowerCycle, Restart};
 use faults::cause::Cause;
-use host::Host;
 use host::axis::AxisHost;
 use host::port::{Flag, HostRefusal, Port};
 use host::table::TableHost;
 use isa::instr::Instr;
 use machine::machine::State;
-use refusal::Refusal;
-use std::process::Abort;
+use machine::machine::State::{Ended, Running};
+use refusal::{Place, Refusal};
 use std::test::Fail;
 
 // An order to 120, which rests at 5, and a sense port.
@@ -34,141 +34,171 @@ const ROWS: [Port; 2] = [
 ];
 
 // Gives port 0 the value n, ticks twice, and reads port 1 into register 0.
-fn orders<'a>(rt: &impl Abort, n: u32, bytes: &'a mut [u8]) -> Result<&'a [u8], Fail> {
-    let instrs = [
-        Instr::New,
-        Instr::Def { n },
-        Instr::Put { b: 1, c: 0 },
-        Instr::Tick,
-        Instr::Tick,
-        Instr::Get { a: 0, c: 1 },
-        RET,
-    ];
-    routine_of(rt, &instrs, bytes)
+macro_rules! orders {
+    ($n:literal) => {
+        Source::Routine(&[
+            Instr::New,
+            Instr::Def { n: $n },
+            Instr::Put { b: 1, c: 0 },
+            Instr::Tick,
+            Instr::Tick,
+            Instr::Get { a: 0, c: 1 },
+            RET,
+        ])
+    };
 }
 
-const ENDS: [(Call, Answer); 7] = [
-    (Call::Grant { fuel: 0 }, Err(Refusal::Fuel)),
-    (Call::Restart, Err(Refusal::Running)),
-    (Call::Grant { fuel: 10_000 }, Ok((7, State::Ended))),
-    (Call::Grant { fuel: 1 }, Err(Refusal::Ended)),
-    (Call::Restart, BEGUN),
-    (Call::Restart, Err(Refusal::Running)),
-    (Call::Grant { fuel: 6 }, Ok((6, State::Running))),
+// Two runs over a host that takes the order. It reads at last what is shown.
+macro_rules! ends {
+    ($n:literal, $shown:literal, $ports:expr) => {
+        Scenario {
+            name: "an order that is taken",
+            module: orders!($n),
+            calls: &[
+                (Grant { fuel: 0 }, Err(Refusal::Fuel)),
+                (Restart, Err(Refusal::Running)),
+                (Grant { fuel: 10_000 }, Ok((7, Ended))),
+                (Grant { fuel: 1 }, Err(Refusal::Ended)),
+                (Restart, BEGUN),
+                (Restart, Err(Refusal::Running)),
+                (Grant { fuel: 6 }, Ok((6, Running))),
+            ],
+            lines: &[At(0, 6), Register(0, $shown), Register(1, $n), Ports($ports)],
+        }
+    };
+}
+
+// The order trips, and a power cycle rests the host.
+macro_rules! trips {
+    ($n:literal, $ports:expr) => {
+        Scenario {
+            name: "an order that trips",
+            module: orders!($n),
+            calls: &[
+                (Grant { fuel: 10_001 }, Err(Refusal::Fuel)),
+                (Grant { fuel: 10_000 }, Ok((3, TRIPPED))),
+                (Grant { fuel: 1 }, Err(Refusal::Tripped)),
+                (Restart, BEGUN),
+                (Grant { fuel: 2 }, Ok((2, Running))),
+                (Grant { fuel: 2 }, Ok((1, TRIPPED))),
+                (PowerCycle, BEGUN),
+            ],
+            lines: &[Faults(&[MARKED, MARKED]), Ports($ports)],
+        }
+    };
+}
+
+static OVER_A_TABLE: [Scenario; 3] = [
+    ends!(30, 7, &[30, 7]),
+    ends!(120, 7, &[120, 7]),
+    trips!(121, &[5, 7]),
 ];
-
-// Wants two runs of the same module over a host to be answered as over every host that takes the order, and what it read last.
-fn ends<H: Host>(rt: &impl Abort, n: u32, host: &mut H, shown: u32) -> Result<(), Fail> {
-    let mut bytes = [0; 128];
-    let module = orders(rt, n, &mut bytes)?;
-    let drive = answers(rt, module, host, &ENDS)?;
-    assert_eq!(rt; drive.place(), Ok(at(0, 6)));
-    assert_eq!(rt; drive.register(0), Ok(shown));
-    assert_eq!(rt; drive.register(1), Ok(n));
-    Ok(())
-}
-
-// Wants the order to trip, and a power cycle to rest the host.
-fn trips<H: Host>(rt: &impl Abort, n: u32, host: &mut H) -> Result<(), Fail> {
-    let mut bytes = [0; 128];
-    let module = orders(rt, n, &mut bytes)?;
-    let state = tripped(OVER, at(0, 2));
-    let wanted = [
-        (grant(10_001), Err(Refusal::Fuel)),
-        (grant(10_000), Ok((3, state))),
-        (grant(1), Err(Refusal::Tripped)),
-        (Call::Restart, BEGUN),
-        (grant(2), Ok((2, State::Running))),
-        (grant(2), Ok((1, state))),
-        (Call::PowerCycle, BEGUN),
-    ];
-    let drive = answers(rt, module, host, &wanted)?;
-    assert_eq!(rt; drive.fault(1), Ok(order_fault(true)));
-    assert_eq!(rt; drive.fault(2), Err(Refusal::Absent));
-    Ok(())
-}
 
 #[test]
 fn a_module_over_a_table(rt: HostRuntime) -> Result<(), Fail> {
-    let mut rows = ROWS;
-    let mut table = TableHost::new(&mut rows);
-    ends(&rt, 30, &mut table, 7)?;
-    assert!(rt; ports(&table) == [Some(30), Some(7), None, None, None]);
-    ends(&rt, 120, &mut table, 7)?;
-    trips(&rt, 121, &mut table)?;
-    assert!(rt; ports(&table) == [Some(5), Some(7), None, None, None]);
+    for way in WAYS {
+        let mut rows = ROWS;
+        let mut table = TableHost::new(&mut rows);
+        play_all(&rt, way, &mut table, &OVER_A_TABLE)?;
+    }
     Ok(())
 }
+
+static OVER_AN_AXIS: [Scenario; 1] = [ends!(30, 50, &[30, 50, 30, 120])];
+
+static OVER_ANOTHER_AXIS: [Scenario; 2] = [
+    ends!(120, 50, &[120, 50, 120, 390]),
+    trips!(3001, &[0, 50, 120, 390]),
+];
 
 #[test]
 fn a_module_over_an_axis(rt: HostRuntime) -> Result<(), Fail> {
-    let mut axis = AxisHost::new();
-    ends(&rt, 30, &mut axis, 50)?;
-    assert!(rt; ports(&axis) == [Some(30), Some(50), Some(30), Some(120), None]);
-    let mut axis = AxisHost::new();
-    ends(&rt, 120, &mut axis, 50)?;
-    assert!(rt; ports(&axis) == [Some(120), Some(50), Some(120), Some(390), None]);
-    trips(&rt, 3001, &mut axis)?;
-    assert!(rt; ports(&axis) == [Some(0), Some(50), Some(120), Some(390), None]);
+    for way in WAYS {
+        play_all(&rt, way, &mut AxisHost::new(), &OVER_AN_AXIS)?;
+        play_all(&rt, way, &mut AxisHost::new(), &OVER_ANOTHER_AXIS)?;
+    }
     Ok(())
 }
+
+static OVER_A_COUNTER: [Scenario; 2] = [ends!(30, 120, &[30, 120]), trips!(120, &[1, 120])];
 
 #[test]
 fn a_module_over_a_counter(rt: HostRuntime) -> Result<(), Fail> {
-    let mut counter = CounterHost::new();
-    ends(&rt, 30, &mut counter, 120)?;
-    assert!(rt; ports(&counter) == [Some(30), Some(120), None, None, None]);
-    trips(&rt, 120, &mut counter)?;
-    assert!(rt; ports(&counter) == [Some(1), Some(120), None, None, None]);
+    for way in WAYS {
+        play_all(&rt, way, &mut CounterHost::new(), &OVER_A_COUNTER)?;
+    }
     Ok(())
 }
 
+static OVER_A_LAMP: [Scenario; 4] = [
+    ends!(30, 30, &[30, 30, 1]),
+    ends!(100, 100, &[100, 100, 2]),
+    trips!(101, &[0, 100, 2]),
+    ends!(0, 0, &[0, 0, 3]),
+];
+
 #[test]
 fn a_module_over_a_lamp(rt: HostRuntime) -> Result<(), Fail> {
-    let mut lamp = LampHost::new();
-    ends(&rt, 30, &mut lamp, 30)?;
-    assert!(rt; ports(&lamp) == [Some(30), Some(30), Some(1), None, None]);
-    ends(&rt, 100, &mut lamp, 100)?;
-    trips(&rt, 101, &mut lamp)?;
-    assert!(rt; ports(&lamp) == [Some(0), Some(100), Some(2), None, None]);
-    ends(&rt, 0, &mut lamp, 0)?;
-    assert!(rt; ports(&lamp) == [Some(0), Some(0), Some(3), None, None]);
+    for way in WAYS {
+        play_all(&rt, way, &mut LampHost::new(), &OVER_A_LAMP)?;
+    }
     Ok(())
 }
+
+const NO_PORT: State = State::Tripped {
+    cause: Cause::Host {
+        refusal: HostRefusal::NoPort,
+        port: 0,
+    },
+    place: Place {
+        routine: 0,
+        instruction: 2,
+    },
+};
+
+static WITHOUT_PORTS: [Scenario; 1] = [Scenario {
+    name: "no port of a host without ports",
+    module: orders!(30),
+    calls: &[
+        (Grant { fuel: 10_000 }, Ok((3, NO_PORT))),
+        (PowerCycle, BEGUN),
+        (Grant { fuel: 10_000 }, Ok((3, NO_PORT))),
+    ],
+    lines: &[Is(NO_PORT), Ports(&[])],
+}];
+
+#[test]
+fn no_port_of_a_host_without_ports(rt: HostRuntime) -> Result<(), Fail> {
+    for way in WAYS {
+        play_all(&rt, way, &mut TableHost::new(&mut []), &WITHOUT_PORTS)?;
+    }
+    Ok(())
+}
+
+static ORDER: [Line; 2] = [
+    Made(Grant { fuel: 3 }, Ok((3, Running))),
+    Ports(&[30, 50, 0, 0]),
+];
+
+static TICKS: [Line; 3] = [
+    Made(Grant { fuel: 3 }, Ok((3, Running))),
+    Register(0, 2),
+    Ports(&[1, 2]),
+];
 
 // A host is lent for one call: the order goes to an axis, and the ticks and the read to a counter.
 #[test]
 fn one_run_over_two_hosts(rt: HostRuntime) -> Result<(), Fail> {
     let mut bytes = [0; 128];
-    let module = orders(&rt, 30, &mut bytes)?;
+    let module = module_of(&rt, orders!(30), &mut bytes)?;
     let mut axis = AxisHost::new();
     let mut counter = CounterHost::new();
     let mut drive = start(module)?;
-    assert_eq!(rt; drive.grant(&mut axis, 3), Ok((3, State::Running)));
-    assert_eq!(rt; drive.grant(&mut counter, 3), Ok((3, State::Running)));
-    assert_eq!(rt; drive.register(0), Ok(2));
-    assert!(rt; ports(&axis) == [Some(30), Some(50), Some(0), Some(0), None]);
-    assert!(rt; ports(&counter) == [Some(1), Some(2), None, None, None]);
-    Ok(())
-}
-
-#[test]
-fn no_port_of_a_host_without_ports(rt: HostRuntime) -> Result<(), Fail> {
-    let mut bytes = [0; 128];
-    let module = orders(&rt, 30, &mut bytes)?;
-    let none = Cause::Host {
-        refusal: HostRefusal::NoPort,
-        port: 0,
-    };
-    let state = tripped(none, at(0, 2));
-    let wanted = [
-        (grant(10_000), Ok((3, state))),
-        (Call::PowerCycle, BEGUN),
-        (grant(10_000), Ok((3, state))),
-    ];
-    let mut rows: [Port; 0] = [];
-    let mut table = TableHost::new(&mut rows);
-    let drive = answers(&rt, module, &mut table, &wanted)?;
-    assert_eq!(rt; drive.state(), state);
+    let new = look(&drive, &axis);
+    let wrong = first_wrong(Way::Call, &mut drive, &mut axis, &new, &ORDER);
+    none_wrong(&rt, wrong, "the order");
+    let wrong = first_wrong(Way::Call, &mut drive, &mut counter, &new, &TICKS);
+    none_wrong(&rt, wrong, "the ticks");
+    assert!(rt; ports(&axis) == listed(&[30, 50, 0, 0], HostRefusal::NoPort));
     Ok(())
 }

@@ -3,8 +3,6 @@
 #![tactic(auto)]
 
 #[cfg(test)]
-mod answered;
-#[cfg(test)]
 mod calls_tests;
 #[cfg(test)]
 mod code;
@@ -25,6 +23,8 @@ mod program;
 mod questions_tests;
 #[cfg(test)]
 mod runs_tests;
+#[cfg(test)]
+mod scenario;
 #[cfg(test)]
 mod seen;
 #[cfg(test)]

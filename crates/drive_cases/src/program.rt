@@ -1,6 +1,6 @@
 //! The program of docs/DRIVE.md.
 
-use drive::call::{Answer, Call, Turn};
+use drive::call::{Call, Turn};
 use drive::drive::Drive;
 use drive::run::run;
 use host::axis::AxisHost;
@@ -19,16 +19,21 @@ pub(crate) fn ramp(bytes: &[u8], sheet: &mut [ShapeRow]) -> Result<(u32, State),
 }
 
 // The same with a list of calls, which restarts the drive and makes one step more.
-pub(crate) fn twice<'a>(
-    checked: Checked<'a>,
-    axis: &mut AxisHost,
-) -> (Drive<'a>, [Option<Answer>; 3]) {
-    let calls = [
-        Call::Grant { fuel: 10_000 },
-        Call::Restart,
-        Call::Grant { fuel: 1 },
+pub(crate) fn twice<'a>(checked: Checked<'a>, axis: &mut AxisHost) -> (Drive<'a>, [Turn; 3]) {
+    let mut turns = [
+        Turn {
+            call: Call::Grant { fuel: 10_000 },
+            answer: None,
+        },
+        Turn {
+            call: Call::Restart,
+            answer: None,
+        },
+        Turn {
+            call: Call::Grant { fuel: 1 },
+            answer: None,
+        },
     ];
-    let mut turns = calls.map(|call| Turn { call, answer: None });
     let drive = run(checked, axis, &mut turns);
-    (drive, turns.map(|turn| turn.answer))
+    (drive, turns)
 }

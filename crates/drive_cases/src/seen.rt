@@ -3,49 +3,51 @@
 use drive::drive::Drive;
 use faults::fault::Fault;
 use host::Host;
+use host::port::HostRefusal;
 use machine::machine::State;
-use refusal::Place;
+use refusal::{Place, Refusal};
 
-// The answers to all questions, each list with one that is refused after the last that may be there, and the first ports.
-#[derive(Clone, Copy, PartialEq, Eq, Debug)]
+// The answers to all questions. Each list has some that are refused after the last that may be there, and in the end that of the
+// highest number. Of the ports there are the first.
+#[derive(Clone, Copy, PartialEq, Eq)]
 pub(crate) struct Seen {
     pub(crate) state: State,
-    pub(crate) place: Option<Place>,
+    pub(crate) place: Result<Place, Refusal>,
     pub(crate) depth: usize,
-    pub(crate) registers: [Option<u32>; 33],
-    pub(crate) memory: [Option<u8>; 4097],
-    pub(crate) faults: [Option<Fault>; 17],
-    pub(crate) ports: [Option<u32>; 5],
+    pub(crate) registers: [Result<u32, Refusal>; 35],
+    pub(crate) memory: [Result<u8, Refusal>; 4098],
+    pub(crate) faults: [Result<Fault, Refusal>; 21],
+    pub(crate) ports: [Result<u32, HostRefusal>; 5],
 }
 
-fn registers(drive: &Drive) -> [Option<u32>; 33] {
-    let mut registers = [None; 33];
-    for (k, register) in registers.iter_mut().enumerate() {
-        *register = drive.register(k).ok();
+fn registers(drive: &Drive) -> [Result<u32, Refusal>; 35] {
+    let mut registers = [drive.register(usize::MAX); 35];
+    for k in 0..34 {
+        registers[k] = drive.register(k);
     }
     registers
 }
 
-fn memory(drive: &Drive) -> [Option<u8>; 4097] {
-    let mut memory = [None; 4097];
-    for (i, byte) in memory.iter_mut().enumerate() {
-        *byte = drive.byte(i).ok();
+fn memory(drive: &Drive) -> [Result<u8, Refusal>; 4098] {
+    let mut memory = [drive.byte(usize::MAX); 4098];
+    for i in 0..4097 {
+        memory[i] = drive.byte(i);
     }
     memory
 }
 
-fn faults(drive: &Drive) -> [Option<Fault>; 17] {
-    let mut faults = [None; 17];
-    for (i, fault) in faults.iter_mut().enumerate() {
-        *fault = drive.fault(i).ok();
+pub(crate) fn faults(drive: &Drive) -> [Result<Fault, Refusal>; 21] {
+    let mut faults = [drive.fault(usize::MAX); 21];
+    for i in 0..20 {
+        faults[i] = drive.fault(i);
     }
     faults
 }
 
-pub(crate) fn ports<H: Host>(host: &H) -> [Option<u32>; 5] {
-    let mut ports = [None; 5];
-    for (p, port) in ports.iter_mut().enumerate() {
-        *port = host.read(p).ok();
+pub(crate) fn ports<H: Host>(host: &H) -> [Result<u32, HostRefusal>; 5] {
+    let mut ports = [Err(HostRefusal::NoPort); 5];
+    for p in 0..5 {
+        ports[p] = host.read(p);
     }
     ports
 }
@@ -53,7 +55,7 @@ pub(crate) fn ports<H: Host>(host: &H) -> [Option<u32>; 5] {
 pub(crate) fn look<H: Host>(drive: &Drive, host: &H) -> Seen {
     Seen {
         state: drive.state(),
-        place: drive.place().ok(),
+        place: drive.place(),
         depth: drive.depth(),
         registers: registers(drive),
         memory: memory(drive),
@@ -62,11 +64,14 @@ pub(crate) fn look<H: Host>(drive: &Drive, host: &H) -> Seen {
     }
 }
 
-// A list of these faults.
-pub(crate) fn listed(faults: &[Fault]) -> [Option<Fault>; 17] {
-    let mut list = [None; 17];
-    for (place, fault) in list.iter_mut().zip(faults) {
-        *place = Some(*fault);
+// What is answered where there are these values: they come first, and everything after them is refused.
+pub(crate) fn listed<T: Copy, E: Copy, const N: usize>(
+    values: &[T],
+    refusal: E,
+) -> [Result<T, E>; N] {
+    let mut list = [Err(refusal); N];
+    for (answer, value) in list.iter_mut().zip(values) {
+        *answer = Ok(*value);
     }
     list
 }

@@ -1,94 +1,153 @@
-use crate::code::{RET, Source, calc, entry, module_of, start, store};
-use crate::seen::look;
+use crate::code::{OVER, RET, Source, module_of, start};
+use crate::scenario::Line::{Byte, Register};
+use crate::scenario::Scenario;
+use crate::seen::{Seen, look};
+use drive::call::Call::Grant;
 use drive::drive::Drive;
 use host::axis::AxisHost;
 use isa::instr::{Instr, Operation, Width};
 use machine::machine::State;
+use machine::machine::State::Running;
+use module::entry::Entry;
+use refusal::{Place, Refusal};
 use std::process::Abort;
 use std::test::Fail;
 
 // For i from 0 on, routine 1 stores the lowest byte of i times i at 8 + i and gives the product, which routine 0 orders of the
 // axis before a tick. That takes 3 steps, and 10 for each i; the order of 55 times 55 trips at step 560.
-fn squares<'a>(rt: &impl Abort, bytes: &'a mut [u8]) -> Result<&'a [u8], Fail> {
-    let instrs = [
+const SQUARES: Source = Source::Module {
+    entries: &[
+        Entry {
+            count: 8,
+            arguments: 0,
+            results: 0,
+        },
+        Entry {
+            count: 5,
+            arguments: 1,
+            results: 1,
+        },
+    ],
+    instrs: &[
         Instr::Def { n: 1 },
         Instr::New,
         Instr::New,
         Instr::Call { a: 2, b: 1, n: 1 },
         Instr::Put { b: 2, c: 0 },
         Instr::Tick,
-        calc(Operation::Add, 1, 1, 0),
+        Instr::Calc {
+            operation: Operation::Add,
+            a: 1,
+            b: 1,
+            c: 0,
+        },
         Instr::Bal { n: 3 },
         Instr::New,
-        calc(Operation::Mul, 1, 0, 0),
-        store(Width::One, 1, 0, 8),
+        Instr::Calc {
+            operation: Operation::Mul,
+            a: 1,
+            b: 0,
+            c: 0,
+        },
+        Instr::Store {
+            width: Width::One,
+            a: 1,
+            b: 0,
+            n: 8,
+        },
         Instr::Mov { a: 0, b: 1 },
         RET,
-    ];
-    let source = Source {
-        entries: &[entry(8, 0, 0), entry(5, 1, 1)],
-        instrs: &instrs,
-        image: &[1, 2, 3],
-    };
-    module_of(rt, source, bytes)
+    ],
+    image: &[1, 2, 3],
+};
+
+const TRIPPED: State = State::Tripped {
+    cause: OVER,
+    place: Place {
+        routine: 0,
+        instruction: 4,
+    },
+};
+
+// So many steps, and the state after them.
+static STEPS: [(u32, State); 10] = [
+    (1, Running),
+    (3, Running),
+    (4, Running),
+    (9, Running),
+    (10, Running),
+    (14, Running),
+    (100, Running),
+    (333, Running),
+    (559, Running),
+    (560, TRIPPED),
+];
+
+// Wants so many steps to be made by one grant, and gives what is seen after it.
+fn in_one(rt: &impl Abort, steps: u32, state: State) -> Result<Seen, Fail> {
+    let mut bytes = [0; 256];
+    let mut axis = AxisHost::new();
+    let mut drive = start(module_of(rt, SQUARES, &mut bytes)?)?;
+    let answer = drive.grant(&mut axis, steps);
+    assert!(rt; answer == Ok((steps, state)));
+    Ok(look(&drive, &axis))
 }
 
-// Makes so many steps by grants of so much fuel, with calls in between that are refused.
-fn grant_in_parts(
-    rt: &impl Abort,
-    drive: &mut Drive,
-    axis: &mut AxisHost,
-    steps: u32,
-    part: u32,
-) -> Result<(), Fail> {
-    assert!(rt; part > 0);
-    for _ in 0..steps / part {
-        assert!(rt; drive.restart().is_err());
-        let (made, _) = drive.grant(axis, part)?;
-        assert_eq!(rt; made, part);
-        assert!(rt; drive.grant(axis, 0).is_err());
+// Whether grants of so much fuel each make so many steps, and the drive then has this state. Before each of them a call is refused,
+// and after it another.
+fn are_made(drive: &mut Drive, axis: &mut AxisHost, grants: u32, fuel: u32, state: State) -> bool {
+    for _ in 0..grants {
+        if drive.restart() != Err(Refusal::Running)
+            || drive.grant(axis, fuel) != Ok((fuel, state))
+            || drive.grant(axis, 0) != Err(Refusal::Fuel)
+        {
+            return false;
+        }
     }
-    if steps % part > 0 {
-        let (made, _) = drive.grant(axis, steps % part)?;
-        assert_eq!(rt; made, steps % part);
-    }
-    Ok(())
+    true
+}
+
+// Wants so many steps to be made by grants of so much fuel and one of what is left, and gives what is seen after them.
+fn in_parts(rt: &impl Abort, steps: u32, state: State, part: u32) -> Result<Seen, Fail> {
+    assert!(rt; steps > 0 && part > 0);
+    let whole = (steps - 1) / part;
+    let rest = (steps - 1) % part + 1;
+    let mut bytes = [0; 256];
+    let mut axis = AxisHost::new();
+    let mut drive = start(module_of(rt, SQUARES, &mut bytes)?)?;
+    assert!(rt; are_made(&mut drive, &mut axis, whole, part, Running));
+    assert!(rt; are_made(&mut drive, &mut axis, 1, rest, state));
+    Ok(look(&drive, &axis))
 }
 
 #[test]
 fn the_same_steps_in_one_grant_and_in_many(rt: HostRuntime) -> Result<(), Fail> {
-    let mut bytes = [0; 256];
-    let module = squares(&rt, &mut bytes)?;
-    for steps in [1, 3, 4, 9, 10, 14, 100, 333, 559, 560] {
-        let mut axis = AxisHost::new();
-        let mut drive = start(module)?;
-        let (made, state) = drive.grant(&mut axis, steps)?;
-        assert_eq!(rt; made, steps);
-        assert_eq!(rt; state == State::Running, steps < 560);
-        let wanted = look(&drive, &axis);
+    for (steps, state) in &STEPS {
+        let wanted = in_one(&rt, *steps, *state)?;
         for part in [1, 2, 7, 100] {
-            let mut axis = AxisHost::new();
-            let mut drive = start(module)?;
-            grant_in_parts(&rt, &mut drive, &mut axis, steps, part)?;
-            assert!(rt; look(&drive, &axis) == wanted);
+            assert!(rt; in_parts(&rt, *steps, *state, part)? == wanted);
         }
     }
     Ok(())
 }
 
 // What the steps come to: 54 times 54 is 2916, whose lowest byte is 100, and 55 times 55 is 3025, whose lowest is 209.
+static WHAT_THEY_COME_TO: Scenario = Scenario {
+    name: "what the steps come to",
+    module: SQUARES,
+    calls: &[(Grant { fuel: 10_000 }, Ok((560, TRIPPED)))],
+    lines: &[
+        Register(1, 55),
+        Register(2, 3025),
+        Byte(2, 3),
+        Byte(62, 100),
+        Byte(63, 209),
+        Byte(64, 0),
+    ],
+};
+
 #[test]
 fn what_the_steps_come_to(rt: HostRuntime) -> Result<(), Fail> {
-    let mut bytes = [0; 256];
-    let module = squares(&rt, &mut bytes)?;
-    let mut axis = AxisHost::new();
-    let mut drive = start(module)?;
-    assert!(rt; drive.grant(&mut axis, 10_000).is_ok());
-    assert_eq!(rt; drive.register(1), Ok(55));
-    assert_eq!(rt; drive.register(2), Ok(3025));
-    assert_eq!(rt; drive.byte(2), Ok(3));
-    assert_eq!(rt; drive.byte(62), Ok(100));
-    assert_eq!(rt; drive.byte(63), Ok(209));
-    assert_eq!(rt; drive.byte(64), Ok(0));
+    WHAT_THEY_COME_TO.play_over_axis(&rt)?;
     Ok(())
 }

@@ -1,169 +1,152 @@
-use crate::answered::{BEGUN, answers, grant};
-use crate::code::{OVER, at, checked, order_fault, ramp, start, tripped};
-use crate::seen::{Seen, listed, look};
-use drive::call::{Call, Turn};
-use drive::run::run;
-use host::axis::AxisHost;
-use machine::machine::State;
+use crate::code::{MARKED, RAMP, STEEP_RAMP, TRIP, TRIPPED};
+use crate::scenario::Line::{Faults, Is};
+use crate::scenario::{BEGUN, Scenario, play_alike, play_each};
+use crate::seen::{Seen, listed};
+use drive::call::Call::{Grant, PowerCycle, Restart};
+use machine::machine::State::{Ended, Running};
 use refusal::Refusal;
 use std::test::Fail;
 
+static LISTS: [Scenario; 4] = [
+    Scenario {
+        name: "no calls",
+        module: RAMP,
+        calls: &[],
+        lines: &[],
+    },
+    Scenario {
+        name: "every call in every state",
+        module: RAMP,
+        calls: &[
+            (Restart, Err(Refusal::Running)),
+            (Grant { fuel: 0 }, Err(Refusal::Fuel)),
+            (Grant { fuel: 2 }, Ok((2, Running))),
+            (Grant { fuel: 10_001 }, Err(Refusal::Fuel)),
+            (Restart, Err(Refusal::Running)),
+            (PowerCycle, BEGUN),
+            (Grant { fuel: 10_000 }, Ok((6, Ended))),
+            (Grant { fuel: u32::MAX }, Err(Refusal::Fuel)),
+            (Grant { fuel: 10_000 }, Err(Refusal::Ended)),
+            (Restart, BEGUN),
+            (Grant { fuel: 6 }, Ok((6, Ended))),
+            (PowerCycle, BEGUN),
+            (Restart, Err(Refusal::Running)),
+            (Grant { fuel: 5 }, Ok((5, Running))),
+            (Grant { fuel: 5 }, Ok((1, Ended))),
+            (Grant { fuel: 0 }, Err(Refusal::Fuel)),
+            (Grant { fuel: 1 }, Err(Refusal::Ended)),
+        ],
+        lines: &[Faults(&[])],
+    },
+    Scenario {
+        name: "an earlier answer goes",
+        module: RAMP,
+        calls: &[
+            (Grant { fuel: 6 }, Ok((6, Ended))),
+            (Grant { fuel: 6 }, Err(Refusal::Ended)),
+        ],
+        lines: &[Is(Ended)],
+    },
+    Scenario {
+        name: "a list and its calls one by one",
+        module: RAMP,
+        calls: &[
+            (Grant { fuel: 4 }, Ok((4, Running))),
+            (Restart, Err(Refusal::Running)),
+            (Grant { fuel: 10_000 }, Ok((2, Ended))),
+            (Grant { fuel: 3 }, Err(Refusal::Ended)),
+            (Restart, BEGUN),
+            (Grant { fuel: 10_001 }, Err(Refusal::Fuel)),
+            (Grant { fuel: 5 }, Ok((5, Running))),
+            (PowerCycle, BEGUN),
+            (Grant { fuel: 3 }, Ok((3, Running))),
+        ],
+        lines: &[],
+    },
+];
+
+// Each is played as a list, over several earlier answers, and call by call.
 #[test]
-fn no_calls(rt: HostRuntime) -> Result<(), Fail> {
-    let mut bytes = [0; 64];
-    let module = ramp(&rt, 1200, &mut bytes)?;
-    let mut axis = AxisHost::new();
-    let new = look(&start(module)?, &axis);
-    let drive = run(checked(module)?, &mut axis, &mut []);
-    assert!(rt; look(&drive, &axis) == new);
-    Ok(())
+fn lists_of_calls(rt: HostRuntime) -> Result<(), Fail> {
+    play_each(&rt, &LISTS)
 }
 
-#[test]
-fn every_call_in_every_state(rt: HostRuntime) -> Result<(), Fail> {
-    let mut bytes = [0; 64];
-    let module = ramp(&rt, 1200, &mut bytes)?;
-    let mut axis = AxisHost::new();
-    let ended = [
-        (Call::Restart, Err(Refusal::Running)),
-        (grant(0), Err(Refusal::Fuel)),
-        (grant(2), Ok((2, State::Running))),
-        (grant(10_001), Err(Refusal::Fuel)),
-        (Call::Restart, Err(Refusal::Running)),
-        (Call::PowerCycle, BEGUN),
-        (grant(10_000), Ok((6, State::Ended))),
-        (grant(u32::MAX), Err(Refusal::Fuel)),
-        (grant(10_000), Err(Refusal::Ended)),
-        (Call::Restart, BEGUN),
-        (grant(6), Ok((6, State::Ended))),
-        (Call::PowerCycle, BEGUN),
-        (Call::Restart, Err(Refusal::Running)),
-        (grant(5), Ok((5, State::Running))),
-        (grant(5), Ok((1, State::Ended))),
-        (grant(0), Err(Refusal::Fuel)),
-        (grant(1), Err(Refusal::Ended)),
-    ];
-    let drive = answers(&rt, module, &mut axis, &ended)?;
-    assert!(rt; drive.fault(0).is_err());
-    Ok(())
-}
+static TRIPS: Scenario = Scenario {
+    name: "calls of a drive that trips",
+    module: STEEP_RAMP,
+    calls: &[
+        (Grant { fuel: 1 }, Ok((1, Running))),
+        (Restart, Err(Refusal::Running)),
+        (Grant { fuel: 10_000 }, Ok((2, TRIPPED))),
+        (Grant { fuel: 0 }, Err(Refusal::Fuel)),
+        (Grant { fuel: 10_000 }, Err(Refusal::Tripped)),
+        (Restart, BEGUN),
+        (Restart, Err(Refusal::Running)),
+        (PowerCycle, BEGUN),
+        (Grant { fuel: 3 }, Ok((3, TRIPPED))),
+        (Grant { fuel: 10_001 }, Err(Refusal::Fuel)),
+        (PowerCycle, BEGUN),
+        (Grant { fuel: 2 }, Ok((2, Running))),
+        (Grant { fuel: 1 }, Ok((1, TRIPPED))),
+        (Grant { fuel: 1 }, Err(Refusal::Tripped)),
+    ],
+    lines: &[Faults(&[MARKED, TRIP])],
+};
 
+static TRIPS_ONCE: Scenario = Scenario {
+    name: "a drive that trips once",
+    module: STEEP_RAMP,
+    calls: &[(Grant { fuel: 3 }, Ok((3, TRIPPED)))],
+    lines: &[],
+};
+
+// The faults alone show how often a drive has tripped.
 #[test]
 fn calls_of_a_drive_that_trips(rt: HostRuntime) -> Result<(), Fail> {
-    let mut bytes = [0; 64];
-    let module = ramp(&rt, 4000, &mut bytes)?;
-    let mut axis = AxisHost::new();
-    let state = tripped(OVER, at(0, 2));
-    let wanted = [
-        (grant(1), Ok((1, State::Running))),
-        (Call::Restart, Err(Refusal::Running)),
-        (grant(10_000), Ok((2, state))),
-        (grant(0), Err(Refusal::Fuel)),
-        (grant(10_000), Err(Refusal::Tripped)),
-        (Call::Restart, BEGUN),
-        (Call::Restart, Err(Refusal::Running)),
-        (Call::PowerCycle, BEGUN),
-        (grant(3), Ok((3, state))),
-        (grant(10_001), Err(Refusal::Fuel)),
-        (Call::PowerCycle, BEGUN),
-        (grant(2), Ok((2, State::Running))),
-        (grant(1), Ok((1, state))),
-        (grant(1), Err(Refusal::Tripped)),
-    ];
-    let drive = answers(&rt, module, &mut axis, &wanted)?;
-    let mut other_axis = AxisHost::new();
-    let mut other = start(module)?;
-    assert_eq!(rt; other.grant(&mut other_axis, 3), Ok((3, state)));
-    let faults = [order_fault(true), order_fault(false)];
+    let seen = TRIPS.play_over_axis(&rt)?;
     let wanted = Seen {
-        faults: listed(&faults),
-        ..look(&other, &other_axis)
+        faults: listed(&[MARKED, TRIP], Refusal::Absent),
+        ..TRIPS_ONCE.play_over_axis(&rt)?
     };
-    assert!(rt; look(&drive, &axis) == wanted);
+    assert!(rt; seen == wanted);
     Ok(())
 }
 
-#[test]
-fn an_earlier_answer_goes(rt: HostRuntime) -> Result<(), Fail> {
-    let mut bytes = [0; 64];
-    let module = ramp(&rt, 1200, &mut bytes)?;
-    let mut axis = AxisHost::new();
-    let mut turns = [
-        Turn {
-            call: grant(6),
-            answer: Some(Err(Refusal::Absent)),
-        },
-        Turn {
-            call: grant(6),
-            answer: Some(Ok((77, State::Running))),
-        },
-    ];
-    let drive = run(checked(module)?, &mut axis, &mut turns);
-    assert_eq!(rt; drive.state(), State::Ended);
-    assert_eq!(rt; turns[0].answer, Some(Ok((6, State::Ended))));
-    assert_eq!(rt; turns[1].answer, Some(Err(Refusal::Ended)));
-    Ok(())
-}
+static FEW: Scenario = Scenario {
+    name: "few calls",
+    module: STEEP_RAMP,
+    calls: &[
+        (Grant { fuel: 2 }, Ok((2, Running))),
+        (PowerCycle, BEGUN),
+        (Grant { fuel: 3 }, Ok((3, TRIPPED))),
+        (Restart, BEGUN),
+        (Grant { fuel: 2 }, Ok((2, Running))),
+    ],
+    lines: &[],
+};
 
 // The same steps between the same restarts and power cycles, in grants of another size and with refused calls in between.
+static MANY: Scenario = Scenario {
+    name: "many calls",
+    module: STEEP_RAMP,
+    calls: &[
+        (Grant { fuel: 1 }, Ok((1, Running))),
+        (Grant { fuel: 1 }, Ok((1, Running))),
+        (Restart, Err(Refusal::Running)),
+        (PowerCycle, BEGUN),
+        (Grant { fuel: 2 }, Ok((2, Running))),
+        (Grant { fuel: 0 }, Err(Refusal::Fuel)),
+        (Grant { fuel: 10_000 }, Ok((1, TRIPPED))),
+        (Grant { fuel: 10_000 }, Err(Refusal::Tripped)),
+        (Restart, BEGUN),
+        (Restart, Err(Refusal::Running)),
+        (Grant { fuel: 1 }, Ok((1, Running))),
+        (Grant { fuel: 1 }, Ok((1, Running))),
+    ],
+    lines: &[],
+};
+
 #[test]
 fn two_lists_of_which_the_same_is_seen(rt: HostRuntime) -> Result<(), Fail> {
-    let mut bytes = [0; 64];
-    let module = ramp(&rt, 4000, &mut bytes)?;
-    let state = tripped(OVER, at(0, 2));
-    let few = [
-        (grant(2), Ok((2, State::Running))),
-        (Call::PowerCycle, BEGUN),
-        (grant(3), Ok((3, state))),
-        (Call::Restart, BEGUN),
-        (grant(2), Ok((2, State::Running))),
-    ];
-    let many = [
-        (grant(1), Ok((1, State::Running))),
-        (grant(1), Ok((1, State::Running))),
-        (Call::Restart, Err(Refusal::Running)),
-        (Call::PowerCycle, BEGUN),
-        (grant(2), Ok((2, State::Running))),
-        (grant(0), Err(Refusal::Fuel)),
-        (grant(10_000), Ok((1, state))),
-        (grant(10_000), Err(Refusal::Tripped)),
-        (Call::Restart, BEGUN),
-        (Call::Restart, Err(Refusal::Running)),
-        (grant(1), Ok((1, State::Running))),
-        (grant(1), Ok((1, State::Running))),
-    ];
-    let mut axis = AxisHost::new();
-    let drive = answers(&rt, module, &mut axis, &few)?;
-    let mut other_axis = AxisHost::new();
-    let other = answers(&rt, module, &mut other_axis, &many)?;
-    assert!(rt; look(&other, &other_axis) == look(&drive, &axis));
-    Ok(())
-}
-
-// The calls of a list, made one by one, are answered as the list is.
-#[test]
-fn a_list_and_its_calls_one_by_one(rt: HostRuntime) -> Result<(), Fail> {
-    let mut bytes = [0; 64];
-    let module = ramp(&rt, 1200, &mut bytes)?;
-    let calls = [
-        grant(4),
-        Call::Restart,
-        grant(10_000),
-        grant(3),
-        Call::Restart,
-        grant(10_001),
-        grant(5),
-        Call::PowerCycle,
-        grant(3),
-    ];
-    let mut turns = calls.map(|call| Turn { call, answer: None });
-    let mut axis = AxisHost::new();
-    let drive = run(checked(module)?, &mut axis, &mut turns);
-    let mut other_axis = AxisHost::new();
-    let mut other = start(module)?;
-    for turn in turns {
-        assert_eq!(rt; turn.answer, Some(other.call(&mut other_axis, turn.call)));
-    }
-    assert!(rt; look(&other, &other_axis) == look(&drive, &axis));
-    Ok(())
+    play_alike(&rt, &FEW, &MANY)
 }

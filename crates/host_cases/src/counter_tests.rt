@@ -1,20 +1,22 @@
-use crate::seen::{refuses, shows, takes, trial};
+use crate::seen::Step::{self, Refuses, Responds, Rest, Shows, Takes, Tick};
+use crate::seen::go;
 use counter::CounterHost;
-use host::Host;
-use host::response::respond;
+
+static COUNTER: [Step; 11] = [
+    Shows(&[1, 0]),
+    Responds(0, 100, 3, 1, Ok(300)),
+    Refuses(0, 101, 6),
+    Refuses(1, 0, 5),
+    Refuses(2, 0, 4),
+    Rest,
+    Tick,
+    Shows(&[1, 301]),
+    Takes(0, 0),
+    Tick,
+    Shows(&[0, 301]),
+];
 
 #[test]
 fn a_counter_counts(rt: HostRuntime) {
-    let mut counter = CounterHost::new();
-    shows(&rt, &counter, &[1, 0]);
-    assert_eq!(rt; respond(&mut counter, trial(0, 100, 3, 1)), Ok(300));
-    refuses(&rt, &mut counter, 0, 101, 6);
-    refuses(&rt, &mut counter, 1, 0, 5);
-    refuses(&rt, &mut counter, 2, 0, 4);
-    counter.rest();
-    counter.tick();
-    shows(&rt, &counter, &[1, 301]);
-    takes(&rt, &mut counter, 0, 0);
-    counter.tick();
-    shows(&rt, &counter, &[0, 301]);
+    go(&rt, &mut CounterHost::new(), &COUNTER);
 }

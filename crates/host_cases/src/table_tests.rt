@@ -1,5 +1,5 @@
-use crate::seen::{refuses, shows, takes, trial};
-use host::Host;
+use crate::seen::Step::{self, Reads, Refuses, Rest, Shows, Takes, Tick};
+use crate::seen::{go, trial};
 use host::port::{Flag, HostRefusal, Port};
 use host::response::respond_on_rows;
 use host::table::TableHost;
@@ -13,6 +13,8 @@ const ORDER: Port = Port {
     rest: Some(12),
 };
 
+const RESTED: Port = Port { value: 12, ..ORDER };
+
 // Has no rest value.
 const SENSE: Port = Port {
     value: 7,
@@ -22,109 +24,126 @@ const SENSE: Port = Port {
     rest: None,
 };
 
-#[test]
-fn no_rows(rt: HostRuntime) {
-    let mut rows: [Port; 0] = [];
-    let mut table = TableHost::new(&mut rows);
-    shows(&rt, &table, &[]);
-    refuses(&rt, &mut table, 0, 15, 4);
-    table.tick();
-    table.rest();
-    shows(&rt, &table, &[]);
+// Has one.
+const RESTING: Port = Port {
+    value: 1,
+    low: 5,
+    high: 4,
+    flag: Flag::Sense,
+    rest: Some(3),
+};
+
+// Rows, what is done with a table of them, and the rows that are then there: those that are ports, and those past the last.
+struct Case {
+    rows: &'static [Port],
+    steps: &'static [Step],
+    ports: &'static [Port],
+    past: &'static [Port],
 }
 
-#[test]
-fn one_row_at_below_and_above_its_limits(rt: HostRuntime) {
-    let mut rows = [ORDER];
-    let mut table = TableHost::new(&mut rows);
-    takes(&rt, &mut table, 0, 11);
-    takes(&rt, &mut table, 0, 10);
-    refuses(&rt, &mut table, 0, 9, 6);
-    refuses(&rt, &mut table, 0, 0, 6);
-    shows(&rt, &table, &[10]);
-    takes(&rt, &mut table, 0, 19);
-    takes(&rt, &mut table, 0, 20);
-    refuses(&rt, &mut table, 0, 21, 6);
-    refuses(&rt, &mut table, 0, u32::MAX, 6);
-    refuses(&rt, &mut table, 1, 15, 4);
-    table.tick();
-    shows(&rt, &table, &[20]);
-    table.rest();
-    shows(&rt, &table, &[12]);
-    assert!(rt; rows == [Port { value: 12, ..ORDER }]);
-}
-
-#[test]
-fn sense_rows(rt: HostRuntime) {
-    let resting = Port {
-        value: 1,
-        low: 5,
-        high: 4,
-        flag: Flag::Sense,
-        rest: Some(3),
-    };
-    let mut rows = [SENSE, resting, ORDER];
-    let mut table = TableHost::new(&mut rows);
-    refuses(&rt, &mut table, 0, 7, 5);
-    refuses(&rt, &mut table, 1, 4, 5);
-    takes(&rt, &mut table, 2, 11);
-    table.tick();
-    shows(&rt, &table, &[7, 1, 11]);
-    table.rest();
-    assert!(rt;
-        rows == [
+static TABLE: [Case; 5] = [
+    // no rows
+    Case {
+        rows: &[],
+        steps: &[Shows(&[]), Refuses(0, 15, 4), Tick, Rest, Shows(&[])],
+        ports: &[],
+        past: &[],
+    },
+    // one row, at, below and above its limits
+    Case {
+        rows: &[ORDER],
+        steps: &[
+            Takes(0, 11),
+            Takes(0, 10),
+            Refuses(0, 9, 6),
+            Refuses(0, 0, 6),
+            Shows(&[10]),
+            Takes(0, 19),
+            Takes(0, 20),
+            Refuses(0, 21, 6),
+            Refuses(0, u32::MAX, 6),
+            Refuses(1, 15, 4),
+            Tick,
+            Shows(&[20]),
+            Rest,
+            Shows(&[12]),
+        ],
+        ports: &[RESTED],
+        past: &[],
+    },
+    // sense rows
+    Case {
+        rows: &[SENSE, RESTING, ORDER],
+        steps: &[
+            Refuses(0, 7, 5),
+            Refuses(1, 4, 5),
+            Takes(2, 11),
+            Tick,
+            Shows(&[7, 1, 11]),
+            Rest,
+        ],
+        ports: &[
             SENSE,
             Port {
                 value: 3,
-                ..resting
+                ..RESTING
             },
-            Port { value: 12, ..ORDER }
-        ]
-    );
-}
+            RESTED,
+        ],
+        past: &[],
+    },
+    // every row of 256 is a port
+    Case {
+        rows: &[ORDER; 256],
+        steps: &[
+            Shows(&[15; 256]),
+            Takes(0, 10),
+            Takes(255, 20),
+            Refuses(256, 15, 4),
+            Reads(0, 10),
+            Reads(1, 15),
+            Reads(254, 15),
+            Reads(255, 20),
+            Rest,
+        ],
+        ports: &[RESTED; 256],
+        past: &[],
+    },
+    // rows past the 256th are ignored
+    Case {
+        rows: &[ORDER; 258],
+        steps: &[
+            Shows(&[15; 256]),
+            Refuses(256, 15, 4),
+            Refuses(257, 15, 4),
+            Takes(255, 20),
+            Rest,
+        ],
+        ports: &[RESTED; 256],
+        past: &[ORDER; 2],
+    },
+];
 
 #[test]
-fn every_row_of_256_is_a_port(rt: HostRuntime) {
-    let mut rows = [ORDER; 256];
-    let mut table = TableHost::new(&mut rows);
-    shows(&rt, &table, &[15; 256]);
-    takes(&rt, &mut table, 0, 10);
-    takes(&rt, &mut table, 255, 20);
-    refuses(&rt, &mut table, 256, 15, 4);
-    assert_eq!(rt; table.read(0), Ok(10));
-    assert_eq!(rt; table.read(1), Ok(15));
-    assert_eq!(rt; table.read(254), Ok(15));
-    assert_eq!(rt; table.read(255), Ok(20));
-    table.rest();
-    assert!(rt; rows == [Port { value: 12, ..ORDER }; 256]);
-}
-
-#[test]
-fn rows_past_the_256th_are_ignored(rt: HostRuntime) {
-    let mut rows = [ORDER; 258];
-    let mut table = TableHost::new(&mut rows);
-    shows(&rt, &table, &[15; 256]);
-    refuses(&rt, &mut table, 256, 15, 4);
-    refuses(&rt, &mut table, 257, 15, 4);
-    takes(&rt, &mut table, 255, 20);
-    table.rest();
-    let mut wanted = [Port { value: 12, ..ORDER }; 258];
-    wanted[256] = ORDER;
-    wanted[257] = ORDER;
-    assert!(rt; rows == wanted);
+fn a_table(rt: HostRuntime) {
+    for case in &TABLE {
+        let mut rows = case.rows.to_vec(rt.alloc()).expect(&rt, "no memory");
+        go(&rt, &mut TableHost::new(rows.as_mut_slice()), case.steps);
+        let (ports, past) = rows.split_at(rows.len().min(256));
+        assert!(rt; ports == case.ports);
+        assert!(rt; past == case.past);
+    }
 }
 
 #[test]
 fn a_response_on_rows(rt: HostRuntime) {
     let mut rows = [ORDER, SENSE];
-    assert_eq!(rt; respond_on_rows(&mut rows, trial(0, 18, 9, 1)), Ok(7));
-    assert_eq!(rt;
-        respond_on_rows(&mut rows, trial(0, 21, 9, 1)),
-        Err(HostRefusal::OutOfLimits)
-    );
-    assert_eq!(rt;
-        respond_on_rows(&mut rows, trial(0, 11, 9, 2)),
-        Err(HostRefusal::NoPort)
-    );
+    for (trial, wanted) in [
+        (trial(0, 18, 9, 1), Ok(7)),
+        (trial(0, 21, 9, 1), Err(HostRefusal::OutOfLimits)),
+        (trial(0, 11, 9, 2), Err(HostRefusal::NoPort)),
+    ] {
+        assert_eq!(rt; respond_on_rows(&mut rows, trial), wanted);
+    }
     assert!(rt; rows == [Port { value: 18, ..ORDER }, SENSE]);
 }

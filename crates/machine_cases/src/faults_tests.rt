@@ -4,201 +4,187 @@ use faults::list::FaultList;
 use host::port::HostRefusal;
 use refusal::Place;
 use std::process::Abort;
-use std::test::Fail;
 
 const PLACE: Place = Place {
     routine: 3,
     instruction: 40,
 };
 
-// A list to which this many faults were added, with the addresses 0, 1, 2 and so on.
-fn filled(faults: u16) -> FaultList {
-    let mut list = FaultList::new();
-    for k in 0..faults {
-        list.add(
-            Cause::MemoryPassed {
-                address: u64::from(k),
-            },
-            Place {
-                routine: 1,
-                instruction: k,
-            },
-        );
-    }
-    list
+// The number of a cause, its layer and its detail.
+type Numbers = (u8, u8, u64);
+
+fn numbers_of(cause: Cause) -> Numbers {
+    (cause.number(), cause.layer().into(), cause.detail())
 }
 
-// Wants this cause to have these three numbers.
-fn tells(rt: &impl Abort, cause: Cause, number: u8, layer: u8, detail: u64) {
-    assert_eq!(rt; cause.number(), number);
-    assert_eq!(rt; u8::from(cause.layer()), layer);
-    assert_eq!(rt; cause.detail(), detail);
-}
-
-// Wants the fault at place i to have been added by `filled` for this address, and to have this mark.
-fn shows(rt: &impl Abort, list: &FaultList, i: usize, address: u16, mark: u8) -> Result<(), Fail> {
-    let fault = list
-        .get(i)
-        .ok_or_else(|| Fail::new("no fault at this place"))?;
-    tells(rt, fault.cause, 2, 2, u64::from(address));
-    assert_eq!(rt; fault.place.routine, 1);
-    assert_eq!(rt; fault.place.instruction, address);
-    assert_eq!(rt; fault.mark(), mark);
-    Ok(())
-}
-
-// Wants the faults of `filled` from one address to before another, all with this mark.
-fn holds(rt: &impl Abort, list: &FaultList, first: u16, end: u16, mark: u8) -> Result<(), Fail> {
-    for (i, address) in (first..end).enumerate() {
-        shows(rt, list, i, address, mark)?;
-    }
-    let count = usize::from(end.saturating_sub(first));
-    assert_eq!(rt; list.len(), count);
-    assert!(rt; list.get(count).is_none());
-    assert!(rt; list.get(usize::MAX).is_none());
-    Ok(())
-}
-
-#[test]
-fn the_numbers_of_every_cause(rt: HostRuntime) {
-    tells(&rt, Cause::ZeroDivisor, 1, 2, 0);
-    tells(
-        &rt,
-        Cause::MemoryPassed { address: u64::MAX },
-        2,
-        2,
-        u64::MAX,
-    );
-    tells(&rt, Cause::TooDeep, 3, 2, 0);
-    tells(
-        &rt,
+static CAUSES: [(Cause, Numbers); 6] = [
+    (Cause::ZeroDivisor, (1, 2, 0)),
+    (Cause::MemoryPassed { address: u64::MAX }, (2, 2, u64::MAX)),
+    (Cause::TooDeep, (3, 2, 0)),
+    (
         Cause::Host {
             refusal: HostRefusal::NoPort,
             port: 9,
         },
-        4,
-        3,
-        9,
-    );
-    tells(
-        &rt,
+        (4, 3, 9),
+    ),
+    (
         Cause::Host {
             refusal: HostRefusal::SensePort,
             port: 0,
         },
-        5,
-        3,
-        0,
-    );
-    tells(
-        &rt,
+        (5, 3, 0),
+    ),
+    (
         Cause::Host {
             refusal: HostRefusal::OutOfLimits,
             port: usize::MAX,
         },
-        6,
-        3,
-        u64::MAX,
-    );
+        (6, 3, u64::MAX),
+    ),
+];
+
+#[test]
+fn the_numbers_of_every_cause(rt: HostRuntime) {
+    for (cause, numbers) in &CAUSES {
+        assert_eq!(rt; numbers_of(*cause), *numbers);
+    }
+}
+
+// Addresses, from the first to before the end.
+type Addresses = (u16, u16);
+
+#[derive(Clone, Copy)]
+enum Step {
+    // Adds a fault for each of these addresses.
+    Add(Addresses),
+    Cycle,
+}
+
+use Step::{Add, Cycle};
+
+// A step, and the addresses of the faults that are then marked and of those that are not, in this order.
+type Kept = (Step, Addresses, Addresses);
+
+const NONE: Addresses = (0, 0);
+
+static NO_FAULTS: [Kept; 2] = [(Add(NONE), NONE, NONE), (Cycle, NONE, NONE)];
+
+static SIXTEEN_ARE_ALL_KEPT: [Kept; 2] = [
+    (Add((0, 15)), NONE, (0, 15)),
+    (Add((15, 16)), NONE, (0, 16)),
+];
+
+static A_SEVENTEENTH_PUSHES_OUT_THE_OLDEST: [Kept; 1] = [(Add((0, 17)), NONE, (1, 17))];
+
+static OF_TWENTY_THE_NEWEST_SIXTEEN_ARE_KEPT: [Kept; 3] = [
+    (Add((0, 20)), NONE, (4, 20)),
+    (Cycle, (4, 20), NONE),
+    (Cycle, NONE, NONE),
+];
+
+static THREE_CYCLES: [Kept; 5] = [
+    (Add((0, 2)), NONE, (0, 2)),
+    (Cycle, (0, 2), NONE),
+    (Add((5, 6)), (0, 2), (5, 6)),
+    (Cycle, (5, 6), NONE),
+    (Cycle, NONE, NONE),
+];
+
+static A_FAULT_MORE_PUSHES_OUT_A_MARKED_ONE: [Kept; 4] = [
+    (Add((0, 16)), NONE, (0, 16)),
+    (Cycle, (0, 16), NONE),
+    (Add((16, 17)), (1, 16), (16, 17)),
+    (Cycle, (16, 17), NONE),
+];
+
+fn place_of(address: u16) -> Place {
+    Place {
+        routine: 1,
+        instruction: address,
+    }
+}
+
+impl Step {
+    fn make(self, list: &mut FaultList) {
+        match self {
+            Add((first, end)) => {
+                for address in first..end {
+                    let cause = Cause::MemoryPassed {
+                        address: u64::from(address),
+                    };
+                    list.add(cause, place_of(address));
+                }
+            }
+            Cycle => list.cycle(),
+        }
+    }
+}
+
+// Wants the faults that were added for these addresses from the place on, with this mark, and answers how many they are.
+fn shows(rt: &impl Abort, list: &FaultList, from: usize, addresses: Addresses, mark: u8) -> usize {
+    let mut at = from;
+    for address in addresses.0..addresses.1 {
+        let fault = list.get(at).expect(rt, "a fault at this place");
+        assert_eq!(rt; numbers_of(fault.cause), (2, 2, u64::from(address)));
+        assert!(rt; fault.place == place_of(address));
+        assert!(rt; fault.mark() == mark);
+        at = at.saturating_add(1);
+    }
+    at
+}
+
+fn keeps(rt: &impl Abort, steps: &[Kept]) {
+    let mut list = FaultList::new();
+    for (step, marked, fresh) in steps {
+        step.make(&mut list);
+        let count = shows(rt, &list, shows(rt, &list, 0, *marked, 1), *fresh, 0);
+        assert!(rt; list.len() == count);
+        assert!(rt; list.get(count).is_none());
+        assert!(rt; list.get(usize::MAX).is_none());
+    }
 }
 
 #[test]
-fn no_faults(rt: HostRuntime) -> Result<(), Fail> {
-    let mut list = FaultList::new();
-    holds(&rt, &list, 0, 0, 0)?;
-    list.cycle();
-    holds(&rt, &list, 0, 0, 0)
+fn faults_are_kept_for_two_cycles(rt: HostRuntime) {
+    keeps(&rt, &NO_FAULTS);
+    keeps(&rt, &SIXTEEN_ARE_ALL_KEPT);
+    keeps(&rt, &A_SEVENTEENTH_PUSHES_OUT_THE_OLDEST);
+    keeps(&rt, &OF_TWENTY_THE_NEWEST_SIXTEEN_ARE_KEPT);
+    keeps(&rt, &THREE_CYCLES);
+    keeps(&rt, &A_FAULT_MORE_PUSHES_OUT_A_MARKED_ONE);
 }
 
-#[test]
-fn one_fault(rt: HostRuntime) -> Result<(), Fail> {
-    let mut list = FaultList::new();
-    let cause = Cause::Host {
-        refusal: HostRefusal::SensePort,
-        port: 7,
-    };
-    list.add(cause, PLACE);
-    assert_eq!(rt; list.len(), 1);
-    assert!(rt;
-        list.get(0)
-            == Some(Fault {
-                cause,
-                place: PLACE,
-                marked: false,
-            })
-    );
+// Wants this fault and no other, or none.
+fn holds(rt: &impl Abort, list: &FaultList, fault: Option<Fault>) {
+    assert!(rt; list.len() == usize::from(fault.is_some()));
+    assert!(rt; list.get(0) == fault);
     assert!(rt; list.get(1).is_none());
-    list.cycle();
-    assert!(rt;
-        list.get(0)
-            == Some(Fault {
-                cause,
-                place: PLACE,
-                marked: true,
-            })
-    );
-    list.cycle();
-    holds(&rt, &list, 0, 0, 0)
+    assert!(rt; list.get(usize::MAX).is_none());
 }
 
 #[test]
-fn sixteen_faults_are_all_kept(rt: HostRuntime) -> Result<(), Fail> {
-    holds(&rt, &filled(15), 0, 15, 0)?;
-    holds(&rt, &filled(16), 0, 16, 0)
-}
-
-#[test]
-fn a_seventeenth_pushes_out_the_oldest(rt: HostRuntime) -> Result<(), Fail> {
-    holds(&rt, &filled(17), 1, 17, 0)
-}
-
-#[test]
-fn of_twenty_the_newest_sixteen_are_kept(rt: HostRuntime) -> Result<(), Fail> {
-    let mut list = filled(20);
-    holds(&rt, &list, 4, 20, 0)?;
-    list.cycle();
-    holds(&rt, &list, 4, 20, 1)?;
-    list.cycle();
-    holds(&rt, &list, 0, 0, 0)
-}
-
-#[test]
-fn three_cycles(rt: HostRuntime) -> Result<(), Fail> {
-    let mut list = filled(2);
-    list.cycle();
-    holds(&rt, &list, 0, 2, 1)?;
-    list.add(
-        Cause::MemoryPassed { address: 5 },
-        Place {
-            routine: 1,
-            instruction: 5,
+fn one_fault(rt: HostRuntime) {
+    let mut list = FaultList::new();
+    let fault = Fault {
+        cause: Cause::Host {
+            refusal: HostRefusal::SensePort,
+            port: 7,
         },
+        place: PLACE,
+        marked: false,
+    };
+    list.add(fault.cause, fault.place);
+    holds(&rt, &list, Some(fault));
+    list.cycle();
+    holds(
+        &rt,
+        &list,
+        Some(Fault {
+            marked: true,
+            ..fault
+        }),
     );
-    assert_eq!(rt; list.len(), 3);
-    shows(&rt, &list, 0, 0, 1)?;
-    shows(&rt, &list, 1, 1, 1)?;
-    shows(&rt, &list, 2, 5, 0)?;
     list.cycle();
-    holds(&rt, &list, 5, 6, 1)?;
-    list.cycle();
-    holds(&rt, &list, 0, 0, 0)
-}
-
-#[test]
-fn a_fault_more_pushes_out_a_marked_one(rt: HostRuntime) -> Result<(), Fail> {
-    let mut list = filled(16);
-    list.cycle();
-    list.add(
-        Cause::MemoryPassed { address: 16 },
-        Place {
-            routine: 1,
-            instruction: 16,
-        },
-    );
-    assert_eq!(rt; list.len(), 16);
-    shows(&rt, &list, 0, 1, 1)?;
-    shows(&rt, &list, 14, 15, 1)?;
-    shows(&rt, &list, 15, 16, 0)?;
-    list.cycle();
-    holds(&rt, &list, 16, 17, 1)
+    holds(&rt, &list, None);
 }

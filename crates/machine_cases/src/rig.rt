@@ -6,14 +6,14 @@ ghost use Rattle.machine.specs.Foretold.{as_foretold};
 ghost use Rattle.machine.specs.View.{world_of};
 
 use host::Host;
-use machine::machine::{Machine, State};
+use machine::machine::Machine;
 use module::checked::Checked;
 
 // The machine is always as the check foretold, so that it has a step while it runs.
 #[derive(Drop)]
 pub(crate) struct Rig<'a> {
     checked: Checked<'a>,
-    machine: Machine,
+    pub(crate) machine: Machine,
     ghost foretold: { as_foretold (bytes_of checked.opened) (world_of machine []) ≡ true },
 }
 
@@ -26,17 +26,5 @@ impl<'a> Rig<'a> {
     // Makes one step, if it runs, and answers whether it did.
     pub(crate) fn advance<H: Host>(&mut self, host: &mut H) -> bool {
         self.machine.run(&self.checked, host, 1) == 1
-    }
-
-    pub(crate) fn state(&self) -> State {
-        self.machine.state
-    }
-
-    pub(crate) fn register(&self, k: usize) -> Option<u32> {
-        self.machine.register(k)
-    }
-
-    pub(crate) fn byte(&self, i: usize) -> Option<u8> {
-        self.machine.byte(i)
     }
 }

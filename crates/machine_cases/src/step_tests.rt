@@ -3,24 +3,27 @@ use host::Host;
 use host::axis::AxisHost;
 use isa::row::Row;
 use machine::machine::State;
+use module::checked::Checked;
 use module::entry::Entry;
 use module::open::open;
 use module::shape::ShapeRow;
 use packing::pack::pack;
 use packing::parts::Parts;
+use refusal::Refusal;
 use std::process::Abort;
-use std::test::Fail;
 
 // Cause, layer, routine, instruction and detail of a trip.
 type Trip = (u8, u8, u16, u16, u64);
 
-// How a run stopped: after how many steps, with which trip, and with what in register 0 and in byte 0 of memory.
-#[derive(Clone, Copy, PartialEq, Eq, Debug)]
-struct Stop {
+// A module that is stepped over an axis: after how many steps it stops, with which trip, and with what in byte 0 of memory and at
+// ports of the axis.
+#[derive(Clone, Copy)]
+struct Run<'a> {
+    parts: Parts<'a>,
     steps: u32,
     trip: Option<Trip>,
-    register: Option<u32>,
-    byte: Option<u8>,
+    byte: u8,
+    ports: &'a [(usize, u32)],
 }
 
 fn trip_of(state: State) -> Option<Trip> {
@@ -36,358 +39,384 @@ fn trip_of(state: State) -> Option<Trip> {
     }
 }
 
-// Steps a module of these parts until it stops, or so many times. Three slices: at a call they read plainer than a struct.
-fn stop_within<H: Host>(
-    rt: &impl Abort,
-    entries: &[Entry],
-    rows: &[Row],
-    image: &[u8],
-    host: &mut H,
-    most: u32,
-) -> Result<Stop, Fail> {
-    let mut bytes = [0; 512];
-    let parts = Parts {
-        entries,
-        rows,
-        image,
-    };
-    let length = pack(parts, &mut bytes)?;
-    assert!(rt; length <= 512);
-    let mut sheet = [ShapeRow::BLANK; 64];
-    let mut rig = Rig::begin(open(&bytes[..length])?.into_checked(&mut sheet)?);
-    for steps in 0..most {
-        if !rig.advance(host) {
-            return Ok(Stop {
+// How a run stopped: after how many steps, with which trip, and with what in register 0 and in byte 0 of memory.
+type Stop = (u32, Option<Trip>, Option<u32>, Option<u8>);
+
+// Steps a module until it stops.
+fn stop(checked: Checked<'_>, axis: &mut AxisHost) -> Option<Stop> {
+    let mut rig = Rig::begin(checked);
+    for steps in 0..1_000_000 {
+        if !rig.advance(axis) {
+            let machine = &rig.machine;
+            return Some((
                 steps,
-                trip: trip_of(rig.state()),
-                register: rig.register(0),
-                byte: rig.byte(0),
-            });
+                trip_of(machine.state),
+                machine.register(0),
+                machine.byte(0),
+            ));
         }
     }
-    Err(Fail::new("still running"))
+    None
 }
 
-// The same within 1000 steps.
-fn stop_at<H: Host>(
-    rt: &impl Abort,
-    entries: &[Entry],
-    rows: &[Row],
-    image: &[u8],
-    host: &mut H,
-) -> Result<Stop, Fail> {
-    stop_within(rt, entries, rows, image, host, 1000)
+// Over a sheet that is long enough for every module of the tests.
+fn checked(bytes: &[u8]) -> Result<Checked<'_>, Refusal> {
+    open(bytes)?.into_checked(&mut [ShapeRow::BLANK; 64])
 }
 
-// As in the tests of packing: a crate that the tests share would be longer than these two.
-fn row(op: u8, a: u8, b: u8, c: u8, n: u32) -> Row {
-    Row { op, a, b, c, n }
-}
-
-fn entry(count: u16, arguments: u8, results: u8) -> Entry {
-    Entry {
-        count,
-        arguments,
-        results,
+// Wants these values at ports of the axis.
+fn shows(rt: &impl Abort, axis: &AxisHost, ports: &[(usize, u32)]) {
+    for (port, value) in ports {
+        assert!(rt; axis.read(*port) == Ok(*value));
     }
 }
 
-// NEW, DEF n, the row, RET, over an axis.
-fn with_constant(rt: &impl Abort, n: u32, row_3: Row) -> Result<Stop, Fail> {
-    let mut axis = AxisHost::new();
-    let rows = [
-        row(0, 0, 0, 0, 0),
-        row(1, 0, 0, 0, n),
-        row_3,
-        row(23, 0, 0, 0, 0),
-    ];
-    stop_at(rt, &[entry(4, 0, 0)], &rows, &[], &mut axis)
+impl Run<'_> {
+    fn goes(&self, rt: &impl Abort) {
+        let mut bytes = [0; 512];
+        let length = pack(self.parts, &mut bytes).expect(rt, "parts of a module");
+        let bytes = bytes.get(..length).expect(rt, "bytes of a module");
+        let checked = checked(bytes).expect(rt, "a module");
+        let mut axis = AxisHost::new();
+        // a trip of these modules leaves 0 in register 0, and after the end there is no register
+        let register = if self.trip.is_some() { Some(0) } else { None };
+        let wanted = (self.steps, self.trip, register, Some(self.byte));
+        assert_eq!(rt; stop(checked, &mut axis), Some(wanted));
+        shows(rt, &axis, self.ports);
+    }
 }
 
-// Wants the run to end, after which there is no register.
-fn ends(rt: &impl Abort, stop: Stop, steps: u32) {
-    assert_eq!(rt; stop.register, None);
-    assert_eq!(rt; (stop.steps, stop.trip), (steps, None));
-}
-
-// Wants the run to trip, with 0 in register 0.
-fn trips(rt: &impl Abort, stop: Stop, steps: u32, trip: Trip) {
-    assert_eq!(rt; stop.register, Some(0));
-    assert_eq!(rt; (stop.steps, stop.trip), (steps, Some(trip)));
-}
-
-#[test]
-fn accesses_at_the_end_of_memory(rt: HostRuntime) -> Result<(), Fail> {
-    for width in [1u8, 2, 4] {
-        for address in [4092u32, 4093, 4095, 4096] {
-            let load = with_constant(&rt, address, row(16, 0, 1, width, 0))?;
-            let store = with_constant(&rt, address, row(17, 0, 1, width, 0))?;
-            if address + u32::from(width) <= 4096 {
-                ends(&rt, load, 4);
-                ends(&rt, store, 4);
-            } else {
-                let trip = (2, 2, 0, 2, u64::from(address));
-                trips(&rt, load, 3, trip);
-                trips(&rt, store, 3, trip);
-            }
+// Macros, since the value of a static calls no function.
+macro_rules! entry {
+    ($count:expr, $arguments:expr, $results:expr) => {
+        Entry {
+            count: $count,
+            arguments: $arguments,
+            results: $results,
         }
+    };
+}
+
+macro_rules! row {
+    ($op:expr, $a:expr, $b:expr, $c:expr, $n:expr) => {
+        Row {
+            op: $op,
+            a: $a,
+            b: $b,
+            c: $c,
+            n: $n,
+        }
+    };
+}
+
+// A load to register 0 and a store from it, at the address in register 1 plus n.
+macro_rules! load {
+    ($width:expr, $n:expr) => {
+        row!(16, 0, 1, $width, $n)
+    };
+}
+
+macro_rules! store {
+    ($width:expr, $n:expr) => {
+        row!(17, 0, 1, $width, $n)
+    };
+}
+
+// NEW, DEF n, the row, RET: n, the row, and the trip if it is one.
+type WithConstant = (u32, Row, Option<Trip>);
+
+fn go_with_constant(rt: &impl Abort, cases: &[WithConstant]) {
+    for (n, instruction, trip) in cases {
+        let run = Run {
+            parts: Parts {
+                entries: &[entry!(4, 0, 0)],
+                rows: &[
+                    row!(0, 0, 0, 0, 0),
+                    row!(1, 0, 0, 0, *n),
+                    *instruction,
+                    row!(23, 0, 0, 0, 0),
+                ],
+                image: &[],
+            },
+            steps: if trip.is_some() { 3 } else { 4 },
+            trip: *trip,
+            byte: 0,
+            ports: &[],
+        };
+        run.goes(rt);
     }
-    Ok(())
 }
 
-#[test]
-fn an_address_never_wraps(rt: HostRuntime) -> Result<(), Fail> {
-    let trip = (2, 2, 0, 2, 4_294_967_296);
-    trips(
-        &rt,
-        with_constant(&rt, 4_294_967_295, row(16, 0, 1, 1, 1))?,
-        3,
-        trip,
-    );
-    trips(
-        &rt,
-        with_constant(&rt, 4_294_967_295, row(17, 0, 1, 4, 1))?,
-        3,
-        trip,
-    );
-    ends(&rt, with_constant(&rt, 4000, row(16, 0, 1, 4, 92))?, 4);
-    trips(
-        &rt,
-        with_constant(&rt, 4000, row(16, 0, 1, 4, 93))?,
-        3,
-        (2, 2, 0, 2, 4093),
-    );
-    Ok(())
-}
+static ACCESSES: [WithConstant; 28] = [
+    // at the end of memory
+    (4092, load!(1, 0), None),
+    (4093, load!(1, 0), None),
+    (4095, load!(1, 0), None),
+    (4096, load!(1, 0), Some((2, 2, 0, 2, 4096))),
+    (4092, load!(2, 0), None),
+    (4093, load!(2, 0), None),
+    (4095, load!(2, 0), Some((2, 2, 0, 2, 4095))),
+    (4096, load!(2, 0), Some((2, 2, 0, 2, 4096))),
+    (4092, load!(4, 0), None),
+    (4093, load!(4, 0), Some((2, 2, 0, 2, 4093))),
+    (4095, load!(4, 0), Some((2, 2, 0, 2, 4095))),
+    (4096, load!(4, 0), Some((2, 2, 0, 2, 4096))),
+    (4092, store!(1, 0), None),
+    (4093, store!(1, 0), None),
+    (4095, store!(1, 0), None),
+    (4096, store!(1, 0), Some((2, 2, 0, 2, 4096))),
+    (4092, store!(2, 0), None),
+    (4093, store!(2, 0), None),
+    (4095, store!(2, 0), Some((2, 2, 0, 2, 4095))),
+    (4096, store!(2, 0), Some((2, 2, 0, 2, 4096))),
+    (4092, store!(4, 0), None),
+    (4093, store!(4, 0), Some((2, 2, 0, 2, 4093))),
+    (4095, store!(4, 0), Some((2, 2, 0, 2, 4095))),
+    (4096, store!(4, 0), Some((2, 2, 0, 2, 4096))),
+    // an address never wraps
+    (
+        4_294_967_295,
+        load!(1, 1),
+        Some((2, 2, 0, 2, 4_294_967_296)),
+    ),
+    (
+        4_294_967_295,
+        store!(4, 1),
+        Some((2, 2, 0, 2, 4_294_967_296)),
+    ),
+    (4000, load!(4, 92), None),
+    (4000, load!(4, 93), Some((2, 2, 0, 2, 4093))),
+];
 
-#[test]
-fn every_other_cause(rt: HostRuntime) -> Result<(), Fail> {
-    trips(
-        &rt,
-        with_constant(&rt, 7, row(8, 0, 1, 0, 0))?,
-        3,
-        (1, 2, 0, 2, 0),
-    );
-    trips(
-        &rt,
-        with_constant(&rt, 7, row(9, 0, 1, 0, 2))?,
-        3,
-        (1, 2, 0, 2, 0),
-    );
-    trips(
-        &rt,
-        with_constant(&rt, 7, row(24, 0, 0, 4, 0))?,
-        3,
-        (4, 3, 0, 2, 4),
-    );
-    trips(
-        &rt,
-        with_constant(&rt, 7, row(25, 0, 1, 255, 0))?,
-        3,
-        (4, 3, 0, 2, 255),
-    );
-    trips(
-        &rt,
-        with_constant(&rt, 7, row(25, 0, 1, 2, 0))?,
-        3,
-        (5, 3, 0, 2, 2),
-    );
-    trips(
-        &rt,
-        with_constant(&rt, 4000, row(25, 0, 1, 0, 0))?,
-        3,
-        (6, 3, 0, 2, 0),
-    );
-    ends(&rt, with_constant(&rt, 3000, row(25, 0, 1, 0, 0))?, 4);
-    Ok(())
-}
+static OTHER_CAUSES: [WithConstant; 7] = [
+    // a division by 0, and one of the remainder
+    (7, row!(8, 0, 1, 0, 0), Some((1, 2, 0, 2, 0))),
+    (7, row!(9, 0, 1, 0, 2), Some((1, 2, 0, 2, 0))),
+    // a port that is absent, of sense, and out of its limits
+    (7, row!(24, 0, 0, 4, 0), Some((4, 3, 0, 2, 4))),
+    (7, row!(25, 0, 1, 255, 0), Some((4, 3, 0, 2, 255))),
+    (7, row!(25, 0, 1, 2, 0), Some((5, 3, 0, 2, 2))),
+    (4000, row!(25, 0, 1, 0, 0), Some((6, 3, 0, 2, 0))),
+    (3000, row!(25, 0, 1, 0, 0), None),
+];
 
 // Routine 1 calls itself as often as its argument says.
-fn nested(rt: &impl Abort, calls: u32) -> Result<Stop, Fail> {
-    let mut axis = AxisHost::new();
-    let rows = [
-        row(1, 0, 0, 0, calls),
-        row(22, 0, 0, 0, 1),
-        row(23, 0, 0, 0, 0),
-        row(1, 0, 0, 0, 0),
-        row(1, 0, 0, 0, 1),
-        row(19, 0, 1, 0, 5),
-        row(6, 0, 0, 2, 0),
-        row(22, 0, 0, 0, 1),
-        row(23, 0, 0, 0, 0),
-    ];
-    stop_at(rt, &[entry(3, 0, 0), entry(6, 1, 0)], &rows, &[], &mut axis)
+macro_rules! nested {
+    ($calls:expr, $steps:expr, $trip:expr) => {
+        Run {
+            parts: Parts {
+                entries: &[entry!(3, 0, 0), entry!(6, 1, 0)],
+                rows: &[
+                    row!(1, 0, 0, 0, $calls),
+                    row!(22, 0, 0, 0, 1),
+                    row!(23, 0, 0, 0, 0),
+                    row!(1, 0, 0, 0, 0),
+                    row!(1, 0, 0, 0, 1),
+                    row!(19, 0, 1, 0, 5),
+                    row!(6, 0, 0, 2, 0),
+                    row!(22, 0, 0, 0, 1),
+                    row!(23, 0, 0, 0, 0),
+                ],
+                image: &[],
+            },
+            steps: $steps,
+            trip: $trip,
+            byte: 0,
+            ports: &[],
+        }
+    };
+}
+
+// Stores 287454020 at address 8 with this width, and loads it.
+macro_rules! stored {
+    ($width:expr, $wanted:expr) => {
+        Run {
+            parts: Parts {
+                entries: &[entry!(9, 0, 0)],
+                rows: &[
+                    row!(1, 0, 0, 0, 0x1122_3344),
+                    row!(1, 0, 0, 0, 8),
+                    row!(0, 0, 0, 0, 0),
+                    row!(17, 0, 1, $width, 0),
+                    row!(16, 2, 1, 4, 0),
+                    row!(1, 0, 0, 0, $wanted),
+                    row!(19, 2, 3, 0, 8),
+                    row!(18, 0, 0, 0, 7),
+                    row!(23, 0, 0, 0, 0),
+                ],
+                image: &[],
+            },
+            steps: 8,
+            trip: None,
+            byte: 0,
+            ports: &[],
+        }
+    };
+}
+
+// Loads byte 0 of the image with this width, from the bytes 44 33 22 11: the lowest byte stands first.
+macro_rules! loaded {
+    ($width:expr, $wanted:expr) => {
+        Run {
+            parts: Parts {
+                entries: &[entry!(7, 0, 0)],
+                rows: &[
+                    row!(1, 0, 0, 0, 0),
+                    row!(0, 0, 0, 0, 0),
+                    row!(16, 1, 0, $width, 0),
+                    row!(1, 0, 0, 0, $wanted),
+                    row!(19, 1, 2, 0, 6),
+                    row!(18, 0, 0, 0, 5),
+                    row!(23, 0, 0, 0, 0),
+                ],
+                image: &[0x44, 0x33, 0x22, 0x11],
+            },
+            steps: 6,
+            trip: None,
+            byte: 0x44,
+            ports: &[],
+        }
+    };
+}
+
+static RUNS: [Run<'static>; 14] = [
+    // nesting of 32 and 33
+    nested!(0, 7, None),
+    nested!(30, 187, None),
+    nested!(31, 157, Some((3, 2, 1, 4, 0))),
+    // stored bytes are loaded
+    stored!(1, 0x44),
+    stored!(2, 0x3344),
+    stored!(4, 0x1122_3344),
+    // the lowest byte stands first
+    loaded!(1, 68),
+    loaded!(2, 13124),
+    loaded!(4, 287_454_020),
+    // a ramp moves the axis
+    Run {
+        parts: Parts {
+            entries: &[entry!(6, 0, 0)],
+            rows: &[
+                row!(0, 0, 0, 0, 0),
+                row!(1, 0, 0, 0, 1200),
+                row!(25, 0, 1, 0, 0),
+                row!(26, 0, 0, 0, 0),
+                row!(24, 0, 0, 2, 0),
+                row!(23, 0, 0, 0, 0),
+            ],
+            image: &[],
+        },
+        steps: 6,
+        trip: None,
+        byte: 0,
+        ports: &[(0, 1200), (2, 50), (3, 50)],
+    },
+    // Arguments, results and the image: routine 0 loads two bytes of the image, hands them to routine 1, and puts the two results
+    // at ports 1 and 0. Routine 1 exchanges its arguments and returns both.
+    Run {
+        parts: Parts {
+            entries: &[entry!(9, 0, 0), entry!(2, 2, 2)],
+            rows: &[
+                row!(1, 0, 0, 0, 0),
+                row!(0, 0, 0, 0, 0),
+                row!(0, 0, 0, 0, 0),
+                row!(16, 1, 0, 1, 0),
+                row!(16, 2, 0, 1, 1),
+                row!(22, 1, 1, 0, 1),
+                row!(25, 0, 1, 1, 0),
+                row!(25, 0, 2, 0, 0),
+                row!(23, 0, 0, 0, 0),
+                row!(4, 0, 1, 0, 0),
+                row!(23, 0, 0, 0, 0),
+            ],
+            image: &[30, 40],
+        },
+        steps: 11,
+        trip: None,
+        byte: 30,
+        ports: &[(1, 40), (0, 30)],
+    },
+    // A long loop: seven steps a turn, ADD, ST, LD, CALL, ADD, RET and BLT, in 100000 turns. The last step is a RET in routine 0.
+    Run {
+        parts: Parts {
+            entries: &[entry!(10, 0, 0), entry!(2, 2, 1)],
+            rows: &[
+                row!(0, 0, 0, 0, 0),
+                row!(0, 0, 0, 0, 0),
+                row!(1, 0, 0, 0, 1),
+                row!(1, 0, 0, 0, 100_000),
+                row!(5, 0, 0, 2, 0),
+                row!(17, 0, 2, 4, 99),
+                row!(16, 1, 2, 4, 99),
+                row!(22, 1, 0, 0, 1),
+                row!(20, 0, 3, 0, 4),
+                row!(23, 0, 0, 0, 0),
+                row!(5, 0, 0, 1, 0),
+                row!(23, 0, 0, 0, 0),
+            ],
+            image: &[],
+        },
+        steps: 700_005,
+        trip: None,
+        byte: 0,
+        ports: &[],
+    },
+    // MOV and KILL, and BLTS that takes 4294967295 for -1 where BLT does not.
+    Run {
+        parts: Parts {
+            entries: &[entry!(10, 0, 0)],
+            rows: &[
+                row!(0, 0, 0, 0, 0),
+                row!(1, 0, 0, 0, 1),
+                row!(1, 0, 0, 0, 4_294_967_295),
+                row!(20, 2, 1, 0, 5),
+                row!(21, 2, 1, 0, 6),
+                row!(18, 0, 0, 0, 5),
+                row!(3, 0, 1, 0, 0),
+                row!(2, 0, 0, 0, 0),
+                row!(25, 0, 0, 1, 0),
+                row!(23, 0, 0, 0, 0),
+            ],
+            image: &[],
+        },
+        steps: 9,
+        trip: None,
+        byte: 0,
+        ports: &[(1, 1)],
+    },
+    // Routine 1 calls routine 0, whose RET ends the run while both wait.
+    Run {
+        parts: Parts {
+            entries: &[entry!(7, 0, 0), entry!(2, 0, 0)],
+            rows: &[
+                row!(0, 0, 0, 0, 0),
+                row!(24, 0, 0, 0, 0),
+                row!(1, 0, 0, 0, 5),
+                row!(19, 0, 1, 0, 6),
+                row!(25, 0, 1, 0, 0),
+                row!(22, 0, 0, 0, 1),
+                row!(23, 0, 0, 0, 0),
+                row!(22, 0, 0, 0, 0),
+                row!(18, 0, 0, 0, 1),
+            ],
+            image: &[],
+        },
+        steps: 12,
+        trip: None,
+        byte: 0,
+        ports: &[],
+    },
+];
+
+#[test]
+fn accesses_and_every_other_cause(rt: HostRuntime) {
+    go_with_constant(&rt, &ACCESSES);
+    go_with_constant(&rt, &OTHER_CAUSES);
 }
 
 #[test]
-fn nesting_of_32_and_33(rt: HostRuntime) -> Result<(), Fail> {
-    ends(&rt, nested(&rt, 0)?, 7);
-    ends(&rt, nested(&rt, 30)?, 187);
-    trips(&rt, nested(&rt, 31)?, 157, (3, 2, 1, 4, 0));
-    Ok(())
-}
-
-#[test]
-fn a_ramp_moves_the_axis(rt: HostRuntime) -> Result<(), Fail> {
-    let mut axis = AxisHost::new();
-    let rows = [
-        row(0, 0, 0, 0, 0),
-        row(1, 0, 0, 0, 1200),
-        row(25, 0, 1, 0, 0),
-        row(26, 0, 0, 0, 0),
-        row(24, 0, 0, 2, 0),
-        row(23, 0, 0, 0, 0),
-    ];
-    let stop = stop_at(&rt, &[entry(6, 0, 0)], &rows, &[], &mut axis)?;
-    ends(&rt, stop, 6);
-    assert_eq!(rt; axis.read(0), Ok(1200));
-    assert_eq!(rt; axis.read(2), Ok(50));
-    assert_eq!(rt; axis.read(3), Ok(50));
-    Ok(())
-}
-
-// Routine 0 loads two bytes of the image, hands them to routine 1, and puts the two results at ports 1 and 0. Routine 1
-// exchanges its arguments and returns both.
-#[test]
-fn arguments_results_and_the_image(rt: HostRuntime) -> Result<(), Fail> {
-    let mut axis = AxisHost::new();
-    let rows = [
-        row(1, 0, 0, 0, 0),
-        row(0, 0, 0, 0, 0),
-        row(0, 0, 0, 0, 0),
-        row(16, 1, 0, 1, 0),
-        row(16, 2, 0, 1, 1),
-        row(22, 1, 1, 0, 1),
-        row(25, 0, 1, 1, 0),
-        row(25, 0, 2, 0, 0),
-        row(23, 0, 0, 0, 0),
-        row(4, 0, 1, 0, 0),
-        row(23, 0, 0, 0, 0),
-    ];
-    let entries = [entry(9, 0, 0), entry(2, 2, 2)];
-    let stop = stop_at(&rt, &entries, &rows, &[30, 40], &mut axis)?;
-    ends(&rt, stop, 11);
-    assert_eq!(rt; stop.byte, Some(30));
-    assert_eq!(rt; axis.read(1), Ok(40));
-    assert_eq!(rt; axis.read(0), Ok(30));
-    Ok(())
-}
-
-// Seven steps a turn: ADD, ST, LD, CALL, ADD, RET and BLT. The last step is a RET in routine 0.
-#[test]
-fn a_long_loop(rt: HostRuntime) -> Result<(), Fail> {
-    let turns = 100_000;
-    let mut axis = AxisHost::new();
-    let rows = [
-        row(0, 0, 0, 0, 0),
-        row(0, 0, 0, 0, 0),
-        row(1, 0, 0, 0, 1),
-        row(1, 0, 0, 0, turns),
-        row(5, 0, 0, 2, 0),
-        row(17, 0, 2, 4, 99),
-        row(16, 1, 2, 4, 99),
-        row(22, 1, 0, 0, 1),
-        row(20, 0, 3, 0, 4),
-        row(23, 0, 0, 0, 0),
-        row(5, 0, 0, 1, 0),
-        row(23, 0, 0, 0, 0),
-    ];
-    let entries = [entry(10, 0, 0), entry(2, 2, 1)];
-    let stop = stop_within(&rt, &entries, &rows, &[], &mut axis, 1_000_000)?;
-    ends(&rt, stop, 700_005);
-    Ok(())
-}
-
-// Stores 287454020 at address 8 with each width, and loads it with each.
-#[test]
-fn stored_bytes_are_loaded(rt: HostRuntime) -> Result<(), Fail> {
-    for (width, wanted) in [(1u8, 0x44u32), (2, 0x3344), (4, 0x1122_3344)] {
-        let mut axis = AxisHost::new();
-        let rows = [
-            row(1, 0, 0, 0, 0x1122_3344),
-            row(1, 0, 0, 0, 8),
-            row(0, 0, 0, 0, 0),
-            row(17, 0, 1, width, 0),
-            row(16, 2, 1, 4, 0),
-            row(1, 0, 0, 0, wanted),
-            row(19, 2, 3, 0, 8),
-            row(18, 0, 0, 0, 7),
-            row(23, 0, 0, 0, 0),
-        ];
-        ends(
-            &rt,
-            stop_at(&rt, &[entry(9, 0, 0)], &rows, &[], &mut axis)?,
-            8,
-        );
+fn runs_to_the_end_and_to_a_trip(rt: HostRuntime) {
+    for run in &RUNS {
+        run.goes(&rt);
     }
-    Ok(())
-}
-
-// Wants byte 0 of the image to be loaded with each width, from the bytes 44 33 22 11.
-#[test]
-fn the_lowest_byte_stands_first(rt: HostRuntime) -> Result<(), Fail> {
-    for (width, wanted) in [(1u8, 68u32), (2, 13124), (4, 287_454_020)] {
-        let mut axis = AxisHost::new();
-        let rows = [
-            row(1, 0, 0, 0, 0),
-            row(0, 0, 0, 0, 0),
-            row(16, 1, 0, width, 0),
-            row(1, 0, 0, 0, wanted),
-            row(19, 1, 2, 0, 6),
-            row(18, 0, 0, 0, 5),
-            row(23, 0, 0, 0, 0),
-        ];
-        let image = [0x44, 0x33, 0x22, 0x11];
-        ends(
-            &rt,
-            stop_at(&rt, &[entry(7, 0, 0)], &rows, &image, &mut axis)?,
-            6,
-        );
-    }
-    Ok(())
-}
-
-// MOV and KILL, and BLTS that takes 4294967295 for -1 where BLT does not.
-#[test]
-fn moves_and_signed_branches(rt: HostRuntime) -> Result<(), Fail> {
-    let mut axis = AxisHost::new();
-    let rows = [
-        row(0, 0, 0, 0, 0),
-        row(1, 0, 0, 0, 1),
-        row(1, 0, 0, 0, 4_294_967_295),
-        row(20, 2, 1, 0, 5),
-        row(21, 2, 1, 0, 6),
-        row(18, 0, 0, 0, 5),
-        row(3, 0, 1, 0, 0),
-        row(2, 0, 0, 0, 0),
-        row(25, 0, 0, 1, 0),
-        row(23, 0, 0, 0, 0),
-    ];
-    ends(
-        &rt,
-        stop_at(&rt, &[entry(10, 0, 0)], &rows, &[], &mut axis)?,
-        9,
-    );
-    assert_eq!(rt; axis.read(1), Ok(1));
-    Ok(())
-}
-
-// Routine 1 calls routine 0, whose RET ends the run while both wait.
-#[test]
-fn ret_in_a_nested_routine_0_ends(rt: HostRuntime) -> Result<(), Fail> {
-    let mut axis = AxisHost::new();
-    let rows = [
-        row(0, 0, 0, 0, 0),
-        row(24, 0, 0, 0, 0),
-        row(1, 0, 0, 0, 5),
-        row(19, 0, 1, 0, 6),
-        row(25, 0, 1, 0, 0),
-        row(22, 0, 0, 0, 1),
-        row(23, 0, 0, 0, 0),
-        row(22, 0, 0, 0, 0),
-        row(18, 0, 0, 0, 1),
-    ];
-    let entries = [entry(7, 0, 0), entry(2, 0, 0)];
-    ends(&rt, stop_at(&rt, &entries, &rows, &[], &mut axis)?, 12);
-    Ok(())
 }

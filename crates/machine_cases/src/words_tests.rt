@@ -1,4 +1,5 @@
-use isa::instr::{Kind, Operation, Part, Test};
+use isa::instr::Kind::{self, Downwards, TowardsZero, Unsigned};
+use isa::instr::{Operation, Part, Test};
 use std::process::Abort;
 use words::calculation::calculate;
 use words::division::divide;
@@ -7,11 +8,32 @@ use words::test::passes;
 // Words at the edges of shifts and of signed words.
 const WORDS: [u32; 8] = [0, 1, 31, 32, 33, 0x7FFFFFFF, 0x80000000, 0xFFFFFFFF];
 
-// Wants the results of an operation: a row for each b, with a result for each c.
-fn gives(rt: &impl Abort, operation: Operation, results: &[[u32; 8]; 8]) {
-    for (b, row) in WORDS.iter().zip(results) {
-        for (c, result) in WORDS.iter().zip(row) {
-            assert_eq!(rt; calculate(operation, *b, *c), *result);
+// What is asked of two words.
+#[derive(Clone, Copy)]
+enum Asked {
+    Calculate(Operation),
+    Divide(Part, Kind),
+}
+
+use Asked::{Calculate, Divide};
+
+fn wants(rt: &impl Abort, asked: Asked, b: u32, c: u32, wanted: Option<u32>) {
+    let answer = match asked {
+        Calculate(operation) => Some(calculate(operation, b, c)),
+        Divide(part, kind) => divide(part, kind, b, c),
+    };
+    assert_eq!(rt; answer, wanted);
+}
+
+// What is asked of each b and each c, and a row of results for each b.
+type Table<const N: usize> = (Asked, &'static [[u32; N]; 8]);
+
+// Wants a row of results for each b, with a result for each c of these.
+fn gives<const N: usize>(rt: &impl Abort, table: Table<N>, words: &[u32; N]) {
+    let (asked, rows) = table;
+    for (b, row) in WORDS.iter().zip(rows) {
+        for (c, wanted) in words.iter().zip(row) {
+            wants(rt, asked, *b, *c, Some(*wanted));
         }
     }
 }
@@ -165,96 +187,84 @@ const SIGNED: [[u32; 8]; 8] = [
     ],
 ];
 
+static CALCULATIONS: [Table<8>; 9] = [
+    (Calculate(Operation::Add), &SUMS),
+    (Calculate(Operation::Sub), &DIFFERENCES),
+    (Calculate(Operation::Mul), &PRODUCTS),
+    (Calculate(Operation::And), &ANDS),
+    (Calculate(Operation::Or), &ORS),
+    (Calculate(Operation::Xor), &XORS),
+    (Calculate(Operation::Sl), &LEFT),
+    (Calculate(Operation::Srl), &RIGHT),
+    (Calculate(Operation::Sra), &SIGNED),
+];
+
 #[test]
 fn calculations_at_the_edges(rt: HostRuntime) {
-    gives(&rt, Operation::Add, &SUMS);
-    gives(&rt, Operation::Sub, &DIFFERENCES);
-    gives(&rt, Operation::Mul, &PRODUCTS);
-    gives(&rt, Operation::And, &ANDS);
-    gives(&rt, Operation::Or, &ORS);
-    gives(&rt, Operation::Xor, &XORS);
-    gives(&rt, Operation::Sl, &LEFT);
-    gives(&rt, Operation::Srl, &RIGHT);
-    gives(&rt, Operation::Sra, &SIGNED);
-}
-
-#[test]
-fn shifts_by_four(rt: HostRuntime) {
-    assert_eq!(rt; calculate(Operation::Sl, 0x80000000, 4), 0);
-    assert_eq!(rt; calculate(Operation::Srl, 0x80000000, 4), 0x08000000);
-    assert_eq!(rt; calculate(Operation::Sra, 0x80000000, 4), 0xF8000000);
-}
-
-const KINDS: [Kind; 3] = [Kind::Unsigned, Kind::TowardsZero, Kind::Downwards];
-
-// Wants the quotient and the remainder of b by c, of each kind.
-fn divides(rt: &impl Abort, b: u32, c: u32, results: &[(u32, u32); 3]) {
-    for (kind, (quotient, remainder)) in KINDS.iter().zip(results) {
-        assert_eq!(rt; divide(Part::Quotient, *kind, b, c), Some(*quotient));
-        assert_eq!(rt; divide(Part::Remainder, *kind, b, c), Some(*remainder));
+    for table in &CALCULATIONS {
+        gives(&rt, *table, &WORDS);
     }
 }
 
+// The highest bit, shifted by four.
+static SHIFTS: [(Operation, u32); 3] = [
+    (Operation::Sl, 0),
+    (Operation::Srl, 0x08000000),
+    (Operation::Sra, 0xF8000000),
+];
+
 #[test]
-fn quotients_and_remainders(rt: HostRuntime) {
-    divides(
-        &rt,
-        4294967289,
-        2,
-        &[(2147483644, 1), (4294967293, 4294967295), (4294967292, 1)],
-    );
-    divides(
-        &rt,
-        7,
-        4294967294,
-        &[(0, 7), (4294967293, 1), (4294967292, 4294967295)],
-    );
-    divides(
-        &rt,
-        2147483648,
-        4294967295,
-        &[(0, 2147483648), (2147483648, 0), (2147483648, 0)],
-    );
-    divides(
-        &rt,
-        4294967289,
-        4294967294,
-        &[(0, 4294967289), (3, 4294967295), (3, 4294967295)],
-    );
-    divides(&rt, 7, 2, &[(3, 1), (3, 1), (3, 1)]);
-    divides(
-        &rt,
-        4294967288,
-        2,
-        &[(2147483644, 0), (4294967292, 0), (4294967292, 0)],
-    );
-    divides(
-        &rt,
-        2147483648,
-        1,
-        &[(2147483648, 0), (2147483648, 0), (2147483648, 0)],
-    );
-    divides(
-        &rt,
-        1,
-        2147483648,
-        &[(0, 1), (0, 1), (4294967295, 2147483649)],
-    );
-    divides(
-        &rt,
-        2147483647,
-        2147483648,
-        &[(0, 2147483647), (0, 2147483647), (4294967295, 4294967295)],
-    );
-    divides(&rt, 0, 4294967295, &[(0, 0), (0, 0), (0, 0)]);
+fn shifts_by_four(rt: HostRuntime) {
+    for (operation, result) in &SHIFTS {
+        wants(&rt, Calculate(*operation), 0x80000000, 4, Some(*result));
+    }
 }
 
-// Wants a part of each division of one kind: a row for each b, with a result for each c but 0.
-fn keeps(rt: &impl Abort, part: Part, kind: Kind, results: &[[u32; 7]; 8]) {
-    for (b, row) in WORDS.iter().zip(results) {
-        for (c, result) in WORDS[1..].iter().zip(row) {
-            assert_eq!(rt; divide(part, kind, *b, *c), Some(*result));
-        }
+// Two words, a kind, and the quotient and the remainder of the one by the other.
+static DIVISIONS: [(u32, u32, Kind, u32, u32); 30] = [
+    (4294967289, 2, Unsigned, 2147483644, 1),
+    (4294967289, 2, TowardsZero, 4294967293, 4294967295),
+    (4294967289, 2, Downwards, 4294967292, 1),
+    (7, 4294967294, Unsigned, 0, 7),
+    (7, 4294967294, TowardsZero, 4294967293, 1),
+    (7, 4294967294, Downwards, 4294967292, 4294967295),
+    (2147483648, 4294967295, Unsigned, 0, 2147483648),
+    (2147483648, 4294967295, TowardsZero, 2147483648, 0),
+    (2147483648, 4294967295, Downwards, 2147483648, 0),
+    (4294967289, 4294967294, Unsigned, 0, 4294967289),
+    (4294967289, 4294967294, TowardsZero, 3, 4294967295),
+    (4294967289, 4294967294, Downwards, 3, 4294967295),
+    (7, 2, Unsigned, 3, 1),
+    (7, 2, TowardsZero, 3, 1),
+    (7, 2, Downwards, 3, 1),
+    (4294967288, 2, Unsigned, 2147483644, 0),
+    (4294967288, 2, TowardsZero, 4294967292, 0),
+    (4294967288, 2, Downwards, 4294967292, 0),
+    (2147483648, 1, Unsigned, 2147483648, 0),
+    (2147483648, 1, TowardsZero, 2147483648, 0),
+    (2147483648, 1, Downwards, 2147483648, 0),
+    (1, 2147483648, Unsigned, 0, 1),
+    (1, 2147483648, TowardsZero, 0, 1),
+    (1, 2147483648, Downwards, 4294967295, 2147483649),
+    (2147483647, 2147483648, Unsigned, 0, 2147483647),
+    (2147483647, 2147483648, TowardsZero, 0, 2147483647),
+    (2147483647, 2147483648, Downwards, 4294967295, 4294967295),
+    (0, 4294967295, Unsigned, 0, 0),
+    (0, 4294967295, TowardsZero, 0, 0),
+    (0, 4294967295, Downwards, 0, 0),
+];
+
+#[test]
+fn quotients_and_remainders(rt: HostRuntime) {
+    for (b, c, kind, quotient, remainder) in &DIVISIONS {
+        wants(&rt, Divide(Part::Quotient, *kind), *b, *c, Some(*quotient));
+        wants(
+            &rt,
+            Divide(Part::Remainder, *kind),
+            *b,
+            *c,
+            Some(*remainder),
+        );
     }
 }
 
@@ -336,72 +346,80 @@ const REMAINDERS_DOWNWARDS: [[u32; 7]; 8] = [
     [0, 30, 31, 32, 0x7FFFFFFE, 0xFFFFFFFF, 0],
 ];
 
+static QUOTIENTS_AND_REMAINDERS: [Table<7>; 6] = [
+    (Divide(Part::Quotient, Unsigned), &QUOTIENTS_UNSIGNED),
+    (Divide(Part::Quotient, TowardsZero), &QUOTIENTS_TOWARDS_ZERO),
+    (Divide(Part::Quotient, Downwards), &QUOTIENTS_DOWNWARDS),
+    (Divide(Part::Remainder, Unsigned), &REMAINDERS_UNSIGNED),
+    (
+        Divide(Part::Remainder, TowardsZero),
+        &REMAINDERS_TOWARDS_ZERO,
+    ),
+    (Divide(Part::Remainder, Downwards), &REMAINDERS_DOWNWARDS),
+];
+
+// The words but 0.
+const DIVISORS: [u32; 7] = [1, 31, 32, 33, 0x7FFFFFFF, 0x80000000, 0xFFFFFFFF];
+
 #[test]
 fn divisions_at_the_edges(rt: HostRuntime) {
-    keeps(&rt, Part::Quotient, Kind::Unsigned, &QUOTIENTS_UNSIGNED);
-    keeps(
-        &rt,
-        Part::Quotient,
-        Kind::TowardsZero,
-        &QUOTIENTS_TOWARDS_ZERO,
-    );
-    keeps(&rt, Part::Quotient, Kind::Downwards, &QUOTIENTS_DOWNWARDS);
-    keeps(&rt, Part::Remainder, Kind::Unsigned, &REMAINDERS_UNSIGNED);
-    keeps(
-        &rt,
-        Part::Remainder,
-        Kind::TowardsZero,
-        &REMAINDERS_TOWARDS_ZERO,
-    );
-    keeps(&rt, Part::Remainder, Kind::Downwards, &REMAINDERS_DOWNWARDS);
+    for table in &QUOTIENTS_AND_REMAINDERS {
+        gives(&rt, *table, &DIVISORS);
+    }
 }
 
 #[test]
 fn no_quotient_by_zero(rt: HostRuntime) {
     for word in WORDS {
-        for kind in KINDS {
-            assert_eq!(rt; divide(Part::Quotient, kind, word, 0), None);
-            assert_eq!(rt; divide(Part::Remainder, kind, word, 0), None);
+        for kind in [Unsigned, TowardsZero, Downwards] {
+            wants(&rt, Divide(Part::Quotient, kind), word, 0, None);
+            wants(&rt, Divide(Part::Remainder, kind), word, 0, None);
         }
     }
 }
 
-// Wants which tests two words pass: equal, below, and below as signed.
-fn compares(rt: &impl Abort, a: u32, b: u32, equal: bool, less: bool, less_signed: bool) {
-    assert_eq!(rt; passes(Test::Equal, a, b), equal);
-    assert_eq!(rt; passes(Test::Less, a, b), less);
-    assert_eq!(rt; passes(Test::LessSigned, a, b), less_signed);
-}
+// Two words, and which tests they pass: equal, below, and below as signed.
+static COMPARISONS: [(u32, u32, (bool, bool, bool)); 11] = [
+    (0, 0, (true, false, false)),
+    (0, 1, (false, true, true)),
+    (1, 0, (false, false, false)),
+    (1, 4294967295, (false, true, false)),
+    (4294967295, 1, (false, false, true)),
+    (4294967295, 4294967295, (true, false, false)),
+    (2147483647, 2147483648, (false, true, false)),
+    (2147483648, 2147483647, (false, false, true)),
+    (2147483648, 4294967295, (false, true, true)),
+    (4294967295, 2147483648, (false, false, false)),
+    (4294967295, 0, (false, false, true)),
+];
 
 #[test]
 fn comparisons_at_the_edges(rt: HostRuntime) {
-    compares(&rt, 0, 0, true, false, false);
-    compares(&rt, 0, 1, false, true, true);
-    compares(&rt, 1, 0, false, false, false);
-    compares(&rt, 1, 4294967295, false, true, false);
-    compares(&rt, 4294967295, 1, false, false, true);
-    compares(&rt, 4294967295, 4294967295, true, false, false);
-    compares(&rt, 2147483647, 2147483648, false, true, false);
-    compares(&rt, 2147483648, 2147483647, false, false, true);
-    compares(&rt, 2147483648, 4294967295, false, true, true);
-    compares(&rt, 4294967295, 2147483648, false, false, false);
-    compares(&rt, 4294967295, 0, false, false, true);
+    for (a, b, wanted) in &COMPARISONS {
+        let passed = (
+            passes(Test::Equal, *a, *b),
+            passes(Test::Less, *a, *b),
+            passes(Test::LessSigned, *a, *b),
+        );
+        assert_eq!(rt; passed, *wanted);
+    }
 }
 
 // The same words as signed: here too the lowest stands first.
 const WORDS_AS_SIGNED: [u32; 8] = [0x80000000, 0xFFFFFFFF, 0, 1, 31, 32, 33, 0x7FFFFFFF];
 
+// Wants words that stand in order to pass this test for that.
+fn in_order(rt: &impl Abort, words: &[u32; 8], less: Test) {
+    for (i, a) in words.iter().enumerate() {
+        for (j, b) in words.iter().enumerate() {
+            let passed = (passes(Test::Equal, *a, *b), passes(less, *a, *b));
+            assert_eq!(rt; passed, (i == j, i < j));
+        }
+    }
+}
+
 #[test]
 fn words_are_in_order(rt: HostRuntime) {
-    for (i, a) in WORDS.iter().enumerate() {
-        for (j, b) in WORDS.iter().enumerate() {
-            assert_eq!(rt; passes(Test::Equal, *a, *b), i == j);
-            assert_eq!(rt; passes(Test::Less, *a, *b), i < j);
-        }
-    }
-    for (i, a) in WORDS_AS_SIGNED.iter().enumerate() {
-        for (j, b) in WORDS_AS_SIGNED.iter().enumerate() {
-            assert_eq!(rt; passes(Test::LessSigned, *a, *b), i < j);
-        }
-    }
+    in_order(&rt, &WORDS, Test::Less);
+    in_order(&rt, &WORDS_AS_SIGNED, Test::LessSigned);
 }
