@@ -1,4 +1,5 @@
 ghost use Rattle.std.specs.Prelude.{◌≡◌};
+ghost use Rattle.isa.specs.declared.row.Row.{Row};
 ghost use Rattle.isa.specs.declared.instr.Instr.TheVariants.{Calc, Divide, Branch};
 ghost use Rattle.isa.specs.Form.{well_formed, decoded, instruction, is_kind, is_width, kind, width};
 ghost use Rattle.isa.specs.Codes.{formed_if};
@@ -59,82 +60,152 @@ fn is_formed(row: Row) -> bool
     }
 }
 
-impl Row {
-    fn calc(self, operation: Operation) -> Instr
-        ensures { result ≡ Calc operation self.a self.b self.c }
-    {
-        let Row { a, b, c, .. } = self;
-        Instr::Calc { operation, a, b, c }
-    }
+/// Where the five fields of a row are read, each when it is asked for: from the row itself, or from the bytes in which it stands. So an
+/// instruction takes no more reads than it has fields.
+pub trait Fields {
+    // The row whose fields they are.
+    ghost whole: { Self → Row };
 
-    fn divide(self, part: Part) -> Instr
-        ensures { result ≡ Divide part (kind self.n) self.a self.b self.c }
-    {
-        let Row { a, b, c, n, .. } = self;
-        let kind = Kind::try_from(n).unwrap_or(Kind::Downwards);
-        Instr::Divide {
-            part,
-            kind,
-            a,
-            b,
-            c,
-        }
-    }
+    fn op(&self) -> u8
+        ensures { result ≡ (whole self.now).op };
 
-    fn branch(self, test: Test) -> Instr
-        ensures { result ≡ Branch test self.a self.b self.n }
-    {
-        let Row { a, b, n, .. } = self;
-        Instr::Branch { test, a, b, n }
-    }
+    fn a(&self) -> u8
+        ensures { result ≡ (whole self.now).a };
 
-    /// The instruction of a well-formed row. A row that is not well formed reads as one, too: what names nothing as the last of its
-    /// kind.
-    // An arm for each opcode, so that a machine finds what to do by one jump.
+    fn b(&self) -> u8
+        ensures { result ≡ (whole self.now).b };
+
+    fn c(&self) -> u8
+        ensures { result ≡ (whole self.now).c };
+
+    fn n(&self) -> u32
+        ensures { result ≡ (whole self.now).n };
+}
+
+impl Fields for Row {
+    ghost whole = { λ r. r };
+
     #[inline(always)]
-    pub fn instruction(self) -> Instr
-        ensures { result ≡ instruction self }
-    {
-        let Row { op, a, b, c, n } = self;
-        match op {
-            0 => Instr::New,
-            1 => Instr::Def { n },
-            2 => Instr::Kill,
-            3 => Instr::Mov { a, b },
-            4 => Instr::Swap { a, b },
-            5 => self.calc(Operation::Add),
-            6 => self.calc(Operation::Sub),
-            7 => self.calc(Operation::Mul),
-            8 => self.divide(Part::Quotient),
-            9 => self.divide(Part::Remainder),
-            10 => self.calc(Operation::And),
-            11 => self.calc(Operation::Or),
-            12 => self.calc(Operation::Xor),
-            13 => self.calc(Operation::Sl),
-            14 => self.calc(Operation::Srl),
-            15 => self.calc(Operation::Sra),
-            16 => Instr::Load {
-                width: Width::try_from(c).unwrap_or(Width::Four),
-                a,
-                b,
-                n,
-            },
-            17 => Instr::Store {
-                width: Width::try_from(c).unwrap_or(Width::Four),
-                a,
-                b,
-                n,
-            },
-            18 => Instr::Bal { n },
-            19 => self.branch(Test::Equal),
-            20 => self.branch(Test::Less),
-            21 => self.branch(Test::LessSigned),
-            22 => Instr::Call { a, b, n },
-            23 => Instr::Ret { a },
-            24 => Instr::Get { a, c },
-            25 => Instr::Put { b, c },
-            _ => Instr::Tick,
-        }
+    fn op(&self) -> u8 {
+        self.op
+    }
+
+    #[inline(always)]
+    fn a(&self) -> u8 {
+        self.a
+    }
+
+    #[inline(always)]
+    fn b(&self) -> u8 {
+        self.b
+    }
+
+    #[inline(always)]
+    fn c(&self) -> u8 {
+        self.c
+    }
+
+    #[inline(always)]
+    fn n(&self) -> u32 {
+        self.n
+    }
+}
+
+fn calc<F: Fields>(row: &F, operation: Operation) -> Instr
+    ensures { result ≡ Calc operation (F.whole row.now).a (F.whole row.now).b (F.whole row.now).c }
+{
+    Instr::Calc {
+        operation,
+        a: row.a(),
+        b: row.b(),
+        c: row.c(),
+    }
+}
+
+fn divide<F: Fields>(row: &F, part: Part) -> Instr
+    ensures { result ≡ Divide part (kind (F.whole row.now).n) (F.whole row.now).a (F.whole row.now).b (F.whole row.now).c }
+{
+    Instr::Divide {
+        part,
+        kind: Kind::try_from(row.n()).unwrap_or(Kind::Downwards),
+        a: row.a(),
+        b: row.b(),
+        c: row.c(),
+    }
+}
+
+fn branch<F: Fields>(row: &F, test: Test) -> Instr
+    ensures { result ≡ Branch test (F.whole row.now).a (F.whole row.now).b (F.whole row.now).n }
+{
+    Instr::Branch {
+        test,
+        a: row.a(),
+        b: row.b(),
+        n: row.n(),
+    }
+}
+
+/// The instruction of a well-formed row. A row that is not well formed reads as one, too: what names nothing as the last of its
+/// kind.
+// An arm for each opcode, so that a machine finds what to do by one jump.
+#[inline(always)]
+pub fn instruction<F: Fields>(row: &F) -> Instr
+    ensures { result ≡ instruction (F.whole row.now) }
+{
+    match row.op() {
+        0 => Instr::New,
+        1 => Instr::Def { n: row.n() },
+        2 => Instr::Kill,
+        3 => Instr::Mov {
+            a: row.a(),
+            b: row.b(),
+        },
+        4 => Instr::Swap {
+            a: row.a(),
+            b: row.b(),
+        },
+        5 => calc(row, Operation::Add),
+        6 => calc(row, Operation::Sub),
+        7 => calc(row, Operation::Mul),
+        8 => divide(row, Part::Quotient),
+        9 => divide(row, Part::Remainder),
+        10 => calc(row, Operation::And),
+        11 => calc(row, Operation::Or),
+        12 => calc(row, Operation::Xor),
+        13 => calc(row, Operation::Sl),
+        14 => calc(row, Operation::Srl),
+        15 => calc(row, Operation::Sra),
+        16 => Instr::Load {
+            width: Width::try_from(row.c()).unwrap_or(Width::Four),
+            a: row.a(),
+            b: row.b(),
+            n: row.n(),
+        },
+        17 => Instr::Store {
+            width: Width::try_from(row.c()).unwrap_or(Width::Four),
+            a: row.a(),
+            b: row.b(),
+            n: row.n(),
+        },
+        18 => Instr::Bal { n: row.n() },
+        19 => branch(row, Test::Equal),
+        20 => branch(row, Test::Less),
+        21 => branch(row, Test::LessSigned),
+        22 => Instr::Call {
+            a: row.a(),
+            b: row.b(),
+            n: row.n(),
+        },
+        23 => Instr::Ret { a: row.a() },
+        24 => Instr::Get {
+            a: row.a(),
+            c: row.c(),
+        },
+        25 => Instr::Put {
+            b: row.b(),
+            c: row.c(),
+        },
+        _ => Instr::Tick,
     }
 }
 
@@ -144,7 +215,7 @@ pub fn decode(row: Row) -> Option<Instr>
     ensures { result ≡ decoded row }
 {
     if is_formed(row) {
-        Some(row.instruction())
+        Some(instruction(&row))
     } else {
         None
     }

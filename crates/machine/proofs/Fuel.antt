@@ -1,8 +1,14 @@
 -- Steps that are made one after the other, and the fuel that they use.
-use Rattle.std.proofs.Common.{◌≡◌, ℕ, zero, suc, ◌+◌, List, Some, sym, refl, ap, ◌∙◌, arith}
+use Rattle.std.proofs.Common.{◌≡◌, ◌≢◌, ℕ, zero, suc, ◌+◌, List, Some, sym, refl, ap, ◌∙◌, arith}
 use Rattle.std.specs.Prelude.{unwrap_or}
-use Rattle.machine.specs.World.{running, World, step}
+use Rattle.machine.specs.World.{Phase, running, ended, tripped, World, step}
 use Rattle.machine.specs.Fuel.{TickRule, by_phase, next, steps, advanced, Goes}
+
+-- a phase that is not running is one of the others
+pub other_phase : (p : Phase) → p ≢ running → (x : ℕ) → by_phase p x 0 0 ≡ 0
+other_phase running h x = absurd (h refl)
+other_phase ended h x = refl
+other_phase (tripped trip) h x = refl
 
 module _ (bs : List ℕ) (rule : TickRule) where
   -- a machine that stopped makes none

@@ -1,3 +1,4 @@
+pub mod Bodies
 pub mod Copies
 pub mod Frames
 pub mod Fuel

@@ -1,5 +1,6 @@
 -- A machine that is as the check foretold, over its steps.
-use Rattle.std.proofs.Common.{◌≡◌, ℕ, true, List, [], ◌∷◌, Some, sym, refl, ap, ◌∙◌, subst}
+use Rattle.std.proofs.Common.{◌≡◌, ◌≢◌, ℕ, true, List, [], ◌∷◌, Some, sym, refl, ap, ◌∙◌, subst, arith}
+use Rattle.faults.specs.Causes.{CauseValues}
 use Rattle.host.specs.declared.port.Port.{Port}
 use Rattle.machine.specs.declared.machine.Machine.{Machine}
 use Rattle.machine.specs.declared.machine.State.{State}
@@ -8,7 +9,8 @@ use Rattle.machine.specs.Nested.{running_routine, waiting}
 use Rattle.machine.specs.Foretold.{AsForetold, levels_as_foretold, as_foretold_in, NeverStuck, as_foretold}
 use Rattle.machine.specs.Fuel.{by_phase}
 use Rattle.machine.specs.View.{phase_of, levels_in, world_of}
-use Rattle.machine.specs.World.{World, world, running, able, step, step_in}
+use Rattle.machine.specs.Level.{Level}
+use Rattle.machine.specs.World.{World, world, running, able, trips, after, step, step_in}
 use Rattle.machine.proofs.Legal.{some_if}
 use Rattle.machine.proofs.Soundness.{head_foretold}
 
@@ -40,15 +42,15 @@ module _ (bs : List ℕ) (never : NeverStuck bs) (m : Machine) (ports : List Por
       let same : next.0 ≡ world_of n later = cc in
       subst (λ (v : World). as_foretold bs v ≡ true) same next.2
 
--- a machine that stopped is not stepped
-pub rests : (m : Machine) (ports : List Port) → (m.state ≡ Running → ⊥) → (x : ℕ) → by_phase (world_of m ports).phase x 0 0 ≡ 0
+-- a machine that does not run makes no step
+pub rests : (m : Machine) (ports : List Port) → (m.state ≡ Running → ⊥) → (world_of m ports).phase ≢ running
 unfolding world_of
-rests m ports stopped x = go m.state stopped
+rests m ports stopped e = go m.state stopped e
   where
-    go : (s : State) → (s ≡ Running → ⊥) → by_phase (phase_of s) x 0 0 ≡ 0
-    go Running h = absurd (h refl)
-    go Ended h = refl
-    go (Tripped cause place) h = refl
+    go : (s : State) → (s ≡ Running → ⊥) → phase_of s ≡ running → ⊥
+    go Running h e = h refl
+    go Ended h e = let z : ◌≡◌ {A = ℕ} 0 1 = ap (λ p. by_phase p 1 0 0) e in omega (arith, z)
+    go (Tripped cause place) h e = let z : ◌≡◌ {A = ℕ} 0 1 = ap (λ p. by_phase p 1 0 0) e in omega (arith, z)
 
 module _ (bs : List ℕ) (m : Machine) (foretold : as_foretold bs (world_of m []) ≡ true) (run : m.state ≡ Running) where
   -- the nested routines of a running machine that is as foretold are so
@@ -58,3 +60,21 @@ module _ (bs : List ℕ) (m : Machine) (foretold : as_foretold bs (world_of m []
 
   pub running_foretold : AsForetold bs (running_routine m.stack)
   running_foretold = head_foretold bs (running_routine m.stack) (waiting m.stack) levels_foretold
+
+-- after a trip or the end none runs
+pub tripped_rests : (w v : World) (l : Level) (cause : CauseValues) → v ≡ after w l (trips cause) → v.phase ≢ running
+unfolding after
+tripped_rests w v l cause e run =
+    let z : ◌≡◌ {A = ℕ} 0 1 = ap (λ p. by_phase p 1 0 0) (sym (ap (λ u. u.phase) e) ∙ run) in
+    omega (arith, z)
+
+pub ended_rests : (m : Machine) (ports : List Port) → m.state ≡ Ended → (world_of m ports).phase ≢ running
+unfolding world_of
+ended_rests m ports e run =
+    let z : ◌≡◌ {A = ℕ} 0 1 = ap (λ p. by_phase p 1 0 0) (ap phase_of (sym e) ∙ run) in
+    omega (arith, z)
+
+-- the phase is the same over any ports
+pub any_phase : (m : Machine) (ports later : List Port) → (world_of m ports).phase ≢ running → (world_of m later).phase ≢ running
+unfolding world_of
+any_phase m ports later h = h

@@ -49,6 +49,11 @@ pub on_none : {T P : Type 0} (o : Option T) → P → IfNone o P
 on_none (Some x) p = tt
 on_none None p = p
 
+-- what follows where there is no value
+pub none_then : {T P Q : Type 0} (o : Option T) → IfNone o P → (P → Q) → IfNone o Q
+none_then (Some x) p f = tt
+none_then None p f = f p
+
 module _ {bs : List ℕ} {rule : List Port → List Port} {m : Machine} {ports : List Port} {n : Machine} {x : Instr} (run : m.state ≡ Running) where
   -- the run goes on
   pub went : {later : List Port} {y : Instr} {l : Level} {ls : List Level} {memory : List ℕ} → x ≡ y →

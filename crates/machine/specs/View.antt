@@ -3,6 +3,8 @@ use Rattle.std.specs.Prelude.{◌≡◌, ℕ, true, Some, List, [], ◌∷◌}
 use Rattle.isa.specs.declared.instr.Instr.{Instr}
 use Rattle.host.specs.declared.port.Port.{Port}
 use Rattle.faults.specs.Causes.{trip_of}
+use Rattle.module.specs.declared.body.Body.{Body}
+use Rattle.module.specs.Told.{bytes_behind, routine_of}
 use Rattle.machine.specs.declared.machine.Machine.{Machine}
 use Rattle.machine.specs.declared.machine.State.{State}
 use Rattle.machine.specs.declared.machine.State.TheVariants.{Running, Ended, Tripped}
@@ -32,6 +34,12 @@ pub record Stands (bs : List ℕ) (x : Instr) (m : Machine) : Type 0 where
   pub running : m.state ≡ Running
   pub stands : here bs (running_routine m.stack) ≡ Some x
   pub able : able bs (running_routine m.stack) (waiting m.stack) ≡ true
+
+-- the machine m runs on the module bs, and t is the body of its running routine
+pub record RunsBody (bs : List ℕ) (m : Machine) (t : Body) : Type 0 where
+  pub running : m.state ≡ Running
+  pub bytes : bytes_behind t ≡ bs
+  pub routine : routine_of t ≡ (running_routine m.stack).routine
 
 -- what an instruction x of a module comes to in the machine m, over these ports
 abbrev pub effect_in : List ℕ → (List Port → List Port) → Instr → Machine → List Port → Move

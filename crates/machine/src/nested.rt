@@ -67,7 +67,7 @@ impl Stack {
         let index = ended - 1;
         let (below, above) = self.frames.split_at_mut(ended);
         let caller = &mut below[index];
-        caller.take(into, above[0].span(a, count));
+        caller.take(into as usize, above[0].span(a, count));
         caller.skip();
         self.top = Top { index };
     }

@@ -63,12 +63,20 @@ impl Frame {
         self.registers()[a as usize].value()
     }
 
-    // Makes a variable of value v of register a.
+    // Makes a variable of value v of register k.
+    fn put(&mut self, k: usize, v: u32)
+        requires { k < length (level_of self.old).registers }
+        ensures { level_of self.new ≡ still (level_of self.old) (slice_set (level_of self.old).registers k (Variable v)) }
+    {
+        self.registers[k] = Register::Variable(v);
+    }
+
+    // The same of a register that an instruction names.
     pub(crate) fn write(&mut self, a: u8, v: u32)
         requires { a < length (level_of self.old).registers }
         ensures { level_of self.new ≡ still (level_of self.old) (slice_set (level_of self.old).registers a (Variable v)) }
     {
-        self.registers[a as usize] = Register::Variable(v);
+        self.put(a as usize, v);
     }
 
     // Exchanges the values of two registers.
@@ -109,6 +117,7 @@ impl Frame {
     }
 
     // Another routine begins in its place, with these arguments as variables.
+    #[inline(always)]
     pub(crate) fn begin(&mut self, routine: usize, arguments: &[Register])
         requires { length arguments.now ≤ 32 }
         ensures { level_of self.new ≡ level routine 0 (as_variables arguments.now) }
@@ -116,20 +125,36 @@ impl Frame {
         self.routine = routine;
         self.pc = 0;
         self.depth = arguments.len();
-        for (k, argument) in arguments.iter().enumerate() {
-            self.registers[k] = Register::Variable(argument.value());
+        self.take(0, arguments);
+    }
+
+    // Takes results into its registers from one on. Lists of one and of two are taken without a loop: the compiler prepares a loop
+    // for long lists, which costs more than to copy a short one.
+    #[inline(always)]
+    pub(crate) fn take(&mut self, into: usize, results: &[Register])
+        requires { into + length results.now ≤ length (level_of self.old).registers }
+        ensures { level_of self.new ≡ still (level_of self.old) (given (level_of self.old).registers into (map value_of results.now)) }
+    {
+        match results {
+            [] => {}
+            [only] => self.put(into, only.value()),
+            [first, second] => {
+                self.put(into, first.value());
+                self.put(into + 1, second.value());
+            }
+            _ => self.take_many(into, results),
         }
     }
 
-    // Takes results into its registers from one on.
-    pub(crate) fn take(&mut self, into: u8, results: &[Register])
+    #[inline(never)]
+    fn take_many(&mut self, into: usize, results: &[Register])
         requires { into + length results.now ≤ length (level_of self.old).registers }
         ensures { level_of self.new ≡ still (level_of self.old) (given (level_of self.old).registers into (map value_of results.now)) }
     {
         // By index: with `self.registers[into as usize..].iter_mut().zip(results)` what the registers hold after the loop stayed open,
         // as a proof knows nothing of what an adapter of `iter_mut` gives back.
         for (k, result) in results.iter().enumerate() {
-            self.write(into + k as u8, result.value());
+            self.put(into + k, result.value());
         }
     }
 }

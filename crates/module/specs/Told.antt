@@ -3,7 +3,10 @@ use Rattle.std.specs.Prelude.{ℕ, List, Result}
 use Rattle.std.specs.Result.{result_map_both}
 use Rattle.refusal.specs.Values.{Values, values_of}
 use Rattle.refusal.specs.declared.Refusal.{Refusal}
+use Rattle.isa.specs.declared.row.Row.{Row}
+use Rattle.module.specs.Layout.{row_from}
 use Rattle.module.specs.declared.body.Body.{Body}
+use Rattle.module.specs.declared.contents.RowAt.{RowAt}
 use Rattle.module.specs.declared.opened.Counts.{Counts}
 use Rattle.module.specs.declared.opened.Opened.{Opened}
 use Rattle.module.specs.declared.routine.Routine.{Routine}
@@ -22,6 +25,10 @@ bytes_behind t = t.bytes.now
 
 abbrev pub routine_of : Body → ℕ
 routine_of t = t.routine
+
+-- the row that begins at a byte
+abbrev pub row_of : RowAt → Row
+row_of t = row_from t.bytes.now t.at
 
 -- an answer without what it gives, with a refusal by its four numbers
 abbrev pub verdict_of : {X : Type 0} → Result X Refusal → Result (Unit {0}) Values

@@ -1,11 +1,13 @@
 // The bodies of a checked module's routines, where a machine runs.
 ghost use Rattle.std.specs.Prelude.{◌≡◌, ◌<◌, ◌≤◌, true, Some, MatchOption};
 ghost use Rattle.module.specs.Accepted.{accepted};
-ghost use Rattle.module.specs.Layout.{routines, count, offset};
+ghost use Rattle.module.specs.Layout.{routines, count, offset, signature};
 ghost use Rattle.module.specs.Places.{instr_at};
 
 use crate::checked::Checked;
-use crate::contents::{entry_of, offset_of, row_from};
+use crate::contents::{RowAt, entry_of, offset_of};
+use isa::access::Signature;
+use isa::decode::instruction;
 use isa::instr::Instr;
 
 /// The body of a routine of a checked module: the module's bytes, which of its routines it is, and where its instructions begin.
@@ -48,12 +50,19 @@ impl Body<'_> {
         usize::from(entry_of(self.bytes, self.routine).count)
     }
 
+    /// What the routine takes and gives.
+    pub fn signature(self) -> Signature
+        ensures { result ≡ signature (bytes_behind self.entry) (routine_of self.entry) }
+    {
+        entry_of(self.bytes, self.routine).signature()
+    }
+
     /// An instruction that there is. No test is made: the check made them.
     #[inline(always)]
     pub fn instruction(self, i: usize) -> Instr
         requires { i < count (bytes_behind self) (routine_of self) }
         ensures { instr_at (bytes_behind self.entry) (routine_of self.entry) i ≡ Some result }
     {
-        row_from(self.bytes, self.at + 8 * i).instruction()
+        instruction(&RowAt::new(self.bytes, self.at + 8 * i))
     }
 }

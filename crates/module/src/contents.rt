@@ -1,9 +1,11 @@
 // The entries and rows of a module's bytes, where there is room for them.
 ghost use Rattle.std.specs.Prelude.{◌≡◌, ◌+◌, ◌*◌, ◌^◌, ◌<◌, ◌≤◌, length};
+ghost use Rattle.module.specs.Bytes.{byte};
 ghost use Rattle.module.specs.Layout.{offset, entry_of, row_from};
 
 use crate::bytes::{read_four, read_two};
 use crate::entry::Entry;
+use isa::decode::Fields;
 use isa::row::Row;
 
 // Where the body of a routine begins.
@@ -38,5 +40,69 @@ pub(crate) fn row_from(bytes: &[u8], at: usize) -> Row
         b: bytes[at + 2],
         c: bytes[at + 3],
         n: read_four(bytes, at + 4),
+    }
+}
+
+// The row that begins at a byte. Its first fields are read at once: they say which registers an instruction takes, and what it makes of
+// them waits for that. The last one is read when it is asked for, as most instructions have none.
+#[derive(Clone, Copy)]
+pub(crate) struct RowAt<'a> {
+    bytes: &'a [u8],
+    at: usize,
+    a: u8,
+    b: u8,
+    c: u8,
+    ghost inside: { at + 8 ≤ length bytes.now },
+    ghost first: { a ≡ byte bytes.now (at + 1) },
+    ghost second: { b ≡ byte bytes.now (at + 2) },
+    ghost third: { c ≡ byte bytes.now (at + 3) },
+}
+
+impl RowAt<'_> {
+    ghost use Rattle.module.specs.Told.{row_of};
+
+    #[inline(always)]
+    pub(crate) fn new(bytes: &[u8], at: usize) -> RowAt<'_>
+        requires { at + 8 ≤ length bytes.now }
+        ensures { row_of result ≡ row_from bytes.now at }
+    {
+        RowAt {
+            bytes,
+            at,
+            a: bytes[at + 1],
+            b: bytes[at + 2],
+            c: bytes[at + 3],
+        }
+    }
+}
+
+impl Fields for RowAt<'_> {
+    ghost use Rattle.module.specs.Told.{row_of};
+
+    ghost whole = { row_of };
+
+    #[inline(always)]
+    fn op(&self) -> u8 {
+        self.bytes[self.at]
+    }
+
+    #[inline(always)]
+    fn a(&self) -> u8 {
+        self.a
+    }
+
+    #[inline(always)]
+    fn b(&self) -> u8 {
+        self.b
+    }
+
+    #[inline(always)]
+    fn c(&self) -> u8 {
+        self.c
+    }
+
+    #[inline(always)]
+    fn n(&self) -> u32 {
+        read_four(self.bytes, self.at + 4)
     }
 }

@@ -2,6 +2,7 @@ ghost use Rattle.std.specs.Prelude.{◌≡◌};
 ghost use Rattle.module.specs.Layout.{right};
 
 use crate::limits;
+use isa::access::Signature;
 
 /// The entry of a routine, without its offset.
 #[derive(Clone, Copy, PartialEq, Eq, Debug, Default)]
@@ -24,5 +25,16 @@ impl Entry {
             && self.results <= limits::RESULTS
             && (routine != 0 || self.arguments == 0 && self.results == 0)
             && before.saturating_add(usize::from(self.count)) <= limits::INSTRUCTIONS
+    }
+
+    // What the routine takes and gives.
+    pub(crate) fn signature(self) -> Signature
+        ensures arguments { result.arguments ≡ self.arguments }
+        ensures results { result.results ≡ self.results }
+    {
+        Signature {
+            arguments: self.arguments,
+            results: self.results,
+        }
     }
 }

@@ -56,10 +56,7 @@ impl Routine<'_> {
     pub(crate) fn signature(&self) -> Signature
         ensures { result ≡ signature (bytes_in self.now) self.now.index }
     {
-        Signature {
-            arguments: self.head.arguments,
-            results: self.head.results,
-        }
+        self.head.signature()
     }
 
     // An instruction as it stands in the body.

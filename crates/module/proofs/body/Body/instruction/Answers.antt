@@ -19,8 +19,8 @@ overflow_add-self c =
     let entry = laid.entry t.routine t.there in
     omega (arith, laid.few, laid.short, entry.placed, entry.inside, c.requires, t.placed)
 
-pub row_from-requires : goal.row_from-requires
-row_from-requires c =
+pub new-requires : goal.new-requires
+new-requires c =
     let t = c.args.self in
     let laid = accepts_laid t.bytes.now t.keeps in
     let entry = laid.entry t.routine t.there in
@@ -32,5 +32,5 @@ returns c =
     let bs = t.bytes.now in
     let row = row_at bs t.routine c.args.i in
     let formed = (accepts_kept bs t.keeps t.routine c.args.i t.there c.requires).2.formed in
-    let is = c.instruction.ensures ∙ ap instruction (c.row_from.ensures ∙ ap (λ at. row_from bs (at + 8 * c.args.i)) t.placed) in
+    let is = c.instruction.ensures ∙ ap instruction (c.new.ensures ∙ ap (λ at. row_from bs (at + 8 * c.args.i)) t.placed) in
     an_instruction bs t.routine c.args.i t.there c.requires ∙ cond-true (well_formed row) (Some (instruction row)) None formed ∙ ap Some (sym is)

@@ -2,10 +2,10 @@ use Rattle.std.proofs.Common.{◌+◌, map, length, take, set, sym, ap, ◌∙�
 use Rattle.machine.specs.declared.frame.Register.TheVariants.{Variable}
 use Rattle.machine.specs.Level.{level_of, value_of, still, given}
 use Rattle.machine.proofs.Copies.{front_more, front_length, given_more, given_length}
-use Rattle.machine.proofs.frame.Frame.take.Goals as goal
+use Rattle.machine.proofs.frame.Frame.take_many.Goals as goal
 
-pub write-requires : goal.write-requires
-write-requires c =
+pub put-requires : goal.put-requires
+put-requires c =
     let rs = (level_of c.args.self.now).registers in
     omega (arith, ap (λ l. length l.registers) c.loop-k.invariant, given_length (map value_of (take c.loop-k.k c.args.results.now)) rs c.args.into)
 
@@ -17,7 +17,7 @@ loop-k-preserved c =
     let xs = c.args.results.now in
     let vs = map value_of (take k xs) in
     let count = front_length value_of xs k (omega arith) in
-    c.write.ensures
+    c.put.ensures
     ∙ ap (λ g. still g (set g.registers (into + k) (Variable c.value.result))) c.loop-k.invariant
     ∙ ap (still l)
     ((λ i. set (given l.registers into vs) (into + sym count i) (Variable (c.value.ensures i)))

@@ -1,6 +1,6 @@
 use Rattle.std.proofs.Common.{◌≡◌, map, take}
 use Rattle.machine.specs.Level.{level_of, value_of, still, given}
-use Rattle.machine.proofs.frame.Frame.take.Given as goal
+use Rattle.machine.proofs.frame.Frame.take_many.Given as goal
 
 abbrev pub invariant-loop-k : goal.invariant-loop-k
 invariant-loop-k l =

@@ -3,9 +3,9 @@ use lib.Seq.{take-set-lt}
 use Rattle.machine.specs.declared.frame.Register.TheVariants.{Variable}
 use Rattle.machine.specs.Level.{level}
 use Rattle.machine.proofs.Frames.{depth_is}
-use Rattle.machine.proofs.frame.Frame.write.Goals as goal
+use Rattle.machine.proofs.frame.Frame.put.Goals as goal
 
 pub returns : goal.returns
 returns c =
     let f = c.args.self.now in
-    ap (level f.routine f.pc) (take-set-lt f.depth f.registers c.args.a (Variable c.args.v) (omega (arith, depth_is f (omega arith))))
+    ap (level f.routine f.pc) (take-set-lt f.depth f.registers c.args.k (Variable c.args.v) (omega (arith, depth_is f (omega arith))))
