@@ -60,8 +60,7 @@ fn is_formed(row: Row) -> bool
     }
 }
 
-/// Where the five fields of a row are read, each when it is asked for: from the row itself, or from the bytes in which it stands. So an
-/// instruction takes no more reads than it has fields.
+/// Where the five fields of a row are read: from the row itself, or from the bytes in which it stands, each when it is asked for.
 pub trait Fields {
     // The row whose fields they are.
     ghost whole: { Self → Row };

@@ -1,5 +1,5 @@
 -- Bodies of routines.
-use Rattle.std.proofs.Common.{◌≡◌, ℕ, ◌<◌, ◌≤◌, List, Some, None, Option, refl, subst, arith}
+use Rattle.std.proofs.Common.{◌≡◌, ℕ, ◌<◌, ◌≤◌, List, Some, None, Option, refl, arith}
 use Rattle.std.specs.Option.{IsSome}
 use Rattle.std.specs.Prelude.{MatchOption}
 use Rattle.module.specs.declared.body.Body.{Body}
@@ -14,6 +14,3 @@ Answered bs r o = MatchOption o (routines bs ≤ r) (λ t. (bytes_behind t ≡ b
 pub has_body : (bs : List ℕ) (r : ℕ) (o : Option Body) → Answered bs r o → r < routines bs → IsSome o
 has_body bs r None h lt = absurd (omega (arith, h, lt))
 has_body bs r (Some t) h lt = refl
-
-pub body_is : (bs : List ℕ) (r : ℕ) {o : Option Body} {t : Body} → o ≡ Some t → Answered bs r o → (bytes_behind t ≡ bs) × (routine_of t ≡ r)
-body_is bs r e h = subst (Answered bs r) e h

@@ -1,9 +1,9 @@
 -- Arguments and results, copied one register at a time.
-use Rattle.std.proofs.Common.{◌≡◌, ℕ, suc, ◌+◌, ◌<◌, ◌≤◌, List, [], ◌∷◌, ◌++◌, map, length, get_or, take, drop, set, refl, ap, ◌∙◌, arith, length-set}
+use Rattle.std.proofs.Common.{◌≡◌, ℕ, zero, suc, ◌+◌, ◌<◌, ◌≤◌, false, List, [], ◌∷◌, ◌++◌, map, length, get_or, take, drop, set, refl, ap, ◌∙◌, arith, length-set}
 use Rattle.std.proofs.lemmas.List.{take_more, map_push, length-map, length-drop, length-take-le}
 use Rattle.machine.specs.declared.frame.Register.{Register}
 use Rattle.machine.specs.declared.frame.Register.TheVariants.{Variable}
-use Rattle.machine.specs.Level.{value_of, as_variables, values_from, given}
+use Rattle.machine.specs.Level.{value_of, is_constant, values_from, given}
 
 -- one more of the front of a list
 pub front_more : {A B : Type 0} (f : A → B) (xs : List A) (k : ℕ) (d : A) → k < length xs →
@@ -26,18 +26,15 @@ pub given_length : (vs : List ℕ) (rs : List Register) (a : ℕ) → length (gi
 given_length [] rs a = refl
 given_length (x ∷ vs) rs a = given_length vs (set rs a (Variable x)) (a + 1) ∙ length-set rs a (Variable x)
 
--- the register before them stays
-given_behind : (vs : List ℕ) (r : Register) (rs : List Register) (a : ℕ) → given (r ∷ rs) (suc a) vs ≡ r ∷ given rs a vs
-given_behind [] r rs a = refl
-given_behind (v ∷ vs) r rs a =
-    let same : suc a + 1 ≡ suc (a + 1) = omega arith in
-    ap (λ n. given (r ∷ set rs a (Variable v)) n vs) same ∙ given_behind vs r (set rs a (Variable v)) (a + 1)
+-- a variable stays one where another value is given
+pub still_variable : (rs : List Register) (a b v : ℕ) → is_constant (get_or rs b (Variable 0)) ≡ false → is_constant (get_or (set rs a (Variable v)) b (Variable 0)) ≡ false
+still_variable [] a b v h = refl
+still_variable (r ∷ rs) zero zero v h = refl
+still_variable (r ∷ rs) zero (suc b) v h = h
+still_variable (r ∷ rs) (suc a) zero v h = h
+still_variable (r ∷ rs) (suc a) (suc b) v h = still_variable rs a b v h
 
--- all registers are given
-pub given_all : (xs rs : List Register) → length rs ≡ length xs → given rs 0 (map value_of xs) ≡ as_variables xs
-given_all [] [] h = refl
-given_all [] (r ∷ rs) h = absurd (omega (arith, h))
-given_all (x ∷ xs) [] h = absurd (omega (arith, h))
-given_all (x ∷ xs) (r ∷ rs) h =
-    let y = Variable (value_of x) in
-    given_behind (map value_of xs) y rs 0 ∙ ap (λ l. y ∷ l) (given_all xs rs (omega (arith, h)))
+-- and where several are
+pub given_variable : (vs : List ℕ) (rs : List Register) (a b : ℕ) → is_constant (get_or rs b (Variable 0)) ≡ false → is_constant (get_or (given rs a vs) b (Variable 0)) ≡ false
+given_variable [] rs a b h = h
+given_variable (v ∷ vs) rs a b h = given_variable vs (set rs a (Variable v)) (a + 1) b (still_variable rs a b v h)

@@ -1,19 +1,22 @@
 -- What it asks of registers that an instruction has a rule there.
 use Rattle.std.proofs.Common.{◌≡◌, ℕ, ◌+◌, ◌<◌, ◌≤◌, Bool, true, false, cond, not, ◌&&◌, ◌||◌, eqb, ltb, List, [], ◌∷◌, length, Some, None, Option, sym, refl, ap, ◌∙◌, subst, arith}
-use Rattle.std.proofs.lemmas.List.{length-map}
+use Rattle.std.proofs.lemmas.List.{length-map, get_or-map}
 use Rattle.std.proofs.lemmas.Bool.{and_parts, ltb-true, leb-true, eqb-true, ne_eqb, false≢true}
 use Rattle.isa.specs.declared.access.Access.{Access}
+use Rattle.isa.specs.declared.access.Span.{Span}
 use Rattle.isa.specs.declared.instr.Instr.{Instr}
 use Rattle.isa.specs.declared.instr.Instr.TheVariants.{New, Def, Kill, Mov, Swap, Calc, Divide, Load, Store, Bal, Branch, Call, Ret, Get, Put, Tick}
-use Rattle.module.specs.declared.checked.Checked.{Checked}
+use Rattle.module.specs.declared.body.Body.{Body}
 use Rattle.module.specs.Accepted.{accepted}
-use Rattle.module.specs.Told.{bytes_of}
+use Rattle.module.specs.Told.{bytes_behind}
+use Rattle.module.specs.Kept.{In}
 use Rattle.module.specs.Layout.{routines, count, instr}
 use Rattle.module.specs.Places.{inside, instr_at}
-use Rattle.module.proofs.Accepts.{accepts_laid, accepts_checked}
-use Rattle.module.specs.Rules.{stacks, calls, access_in, both, within_depth, registers, constants}
+use Rattle.module.proofs.Accepts.{accepts_laid, accepts_body, in_variables}
+use Rattle.module.specs.Rules.{stacks, calls, access_in, both, within_depth, registers, spares, constants}
 use Rattle.machine.specs.declared.frame.Register.{Register}
-use Rattle.machine.specs.Level.{Level, is_constant}
+use Rattle.machine.specs.declared.frame.Register.TheVariants.{Variable}
+use Rattle.machine.specs.Level.{Level, is_constant, variable_at}
 use Rattle.machine.specs.declared.machine.Machine.{Machine}
 use Rattle.machine.specs.Nested.{running_routine, waiting, newest_of}
 use Rattle.machine.specs.World.{shape_of, allowed, allowed_at, here, calls_routine, awaited, is_return, able}
@@ -54,11 +57,20 @@ legal bs r x s h =
       };
     }
 
+-- it writes no constant
+spared : (bs : List ℕ) (r : ℕ) (x : Instr) (s : List Bool) → allowed bs r x s ≡ true → constants bs r s x ≡ true
+unfolding allowed
+spared bs r x s h =
+    let p = and_parts (stacks (length s) x) (calls bs x && (registers bs r (length s) x && constants bs r s x)) h in
+    let q = and_parts (calls bs x) (registers bs r (length s) x && constants bs r s x) p.1 in
+    (and_parts (registers bs r (length s) x) (constants bs r s x) q.1).1
+
 -- A routine that stands at the instruction x, which has a rule there. In a module that is laid out as the format says, places
 -- have small numbers.
 pub record Ready (bs : List ℕ) (l : Level) (x : Instr) : Type 0 where
   pub stands : here bs l ≡ Some x
   pub legal : Legal bs l.routine x (length l.registers)
+  pub spare : both (spares (shape_of l.registers)) (access_in bs l.routine x).writes ≡ true
   pub routine : l.routine < routines bs
   pub routine_low : l.routine < 65536
   pub place_low : l.pc < 65536
@@ -90,6 +102,7 @@ module _ (bs : List ℕ) (ok : accepted bs ≡ true) where
       record {
         stands = e;
         legal = subst (Legal bs l.routine x) (length-shape l.registers) rules;
+        spare = spared bs l.routine x (shape_of l.registers) (sym (ap (allowed_at bs l) e) ∙ h);
         routine = p.0;
         routine_low = omega (arith, p.0, laid.few);
         place_low = omega (arith, p.1, entry.inside, laid.short);
@@ -99,10 +112,26 @@ module _ (bs : List ℕ) (ok : accepted bs ≡ true) where
   unfolding able
   ready l ls x y h e is = ready_at l y (e ∙ ap Some is) (and_parts (allowed_at bs l (here bs l)) _ h).0
 
--- the running routine of a machine over a checked module
-pub stands_ready : (checked : Checked) (m : Machine) (x : Instr) {y : Instr} → able (bytes_of checked.opened) (running_routine m.stack) (waiting m.stack) ≡ true →
-    here (bytes_of checked.opened) (running_routine m.stack) ≡ Some x → x ≡ y → Ready (bytes_of checked.opened) (running_routine m.stack) y
-stands_ready checked m x h e is = ready (bytes_of checked.opened) (accepts_checked checked) (running_routine m.stack) (waiting m.stack) x _ h e is
+-- the running routine of a machine, over a body of its module
+pub stands_ready : (t : Body) (m : Machine) (x : Instr) {y : Instr} → able (bytes_behind t) (running_routine m.stack) (waiting m.stack) ≡ true →
+    here (bytes_behind t) (running_routine m.stack) ≡ Some x → x ≡ y → Ready (bytes_behind t) (running_routine m.stack) y
+stands_ready t m x h e is = ready (bytes_behind t) (accepts_body t) (running_routine m.stack) (waiting m.stack) x _ h e is
+
+-- the registers that it writes are variables
+module _ {bs : List ℕ} {l : Level} {x : Instr} (r : Ready bs l x) where
+  in_span : (p : Span) (k : ℕ) → spares (shape_of l.registers) p ≡ true → In p k → k < length l.registers → variable_at l k
+  in_span p k h m lt =
+      sym (get_or-map is_constant l.registers k (Variable 0) true lt)
+      ∙ in_variables (shape_of l.registers) p k h m (omega (arith, lt, length-shape l.registers))
+
+  parts : (spares (shape_of l.registers) (access_in bs l.routine x).writes.0 ≡ true) × (spares (shape_of l.registers) (access_in bs l.routine x).writes.1 ≡ true)
+  parts = and_parts (spares (shape_of l.registers) (access_in bs l.routine x).writes.0) _ r.spare
+
+  pub first_spare : (k : ℕ) → In (access_in bs l.routine x).writes.0 k → k < length l.registers → variable_at l k
+  first_spare k m lt = in_span (access_in bs l.routine x).writes.0 k parts.0 m lt
+
+  pub second_spare : (k : ℕ) → In (access_in bs l.routine x).writes.1 k → k < length l.registers → variable_at l k
+  second_spare k m lt = in_span (access_in bs l.routine x).writes.1 k parts.1 m lt
 
 -- the newest of the routines that wait stands at a call of routine r
 pub record Waits (bs : List ℕ) (r : ℕ) (ls : List Level) : Type 0 where

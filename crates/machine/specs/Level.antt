@@ -1,5 +1,5 @@
 -- A nested routine as the rules see it, and what becomes of its registers.
-use Rattle.std.specs.Prelude.{ℕ, ◌+◌, Bool, true, false, List, [], ◌∷◌, map, take, drop, slice_index_or, slice_set}
+use Rattle.std.specs.Prelude.{◌≡◌, ℕ, ◌+◌, ◌<◌, ◌≤◌, Bool, true, false, List, [], ◌∷◌, map, take, drop, slice_index_or, slice_set}
 use Rattle.machine.specs.declared.frame.Frame.{Frame}
 use Rattle.machine.specs.declared.frame.Register.{Register}
 use Rattle.machine.specs.declared.frame.Register.TheVariants.{Variable, Constant}
@@ -31,6 +31,14 @@ is_constant (Constant v) = true
 -- the value of register a; 0 where there is none
 unfoldable pub value : Level → ℕ → ℕ
 value l a = value_of (slice_index_or l.registers a (Variable 0))
+
+-- register a is a variable, or there is none
+abbrev pub variable_at : Level → ℕ → Type 0
+variable_at l a = is_constant (slice_index_or l.registers a (Variable 0)) ≡ false
+
+-- count registers from a on are variables
+abbrev pub Variables : Level → ℕ → ℕ → Type 0
+Variables l a count = (k : ℕ) → a ≤ k → k < a + count → variable_at l k
 
 -- the routine with these registers, at the same instruction
 abbrev pub still : Level → List Register → Level

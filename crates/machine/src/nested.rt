@@ -1,6 +1,6 @@
 // What an instruction does to the nested routines.
 ghost use Rattle.std.specs.Prelude.{◌≡◌, ◌+◌, ◌^◌, ◌<◌, ◌≤◌, [], ◌∷◌, length, drop};
-ghost use Rattle.machine.specs.Level.{level, level_of, onward, copied, values_from, given};
+ghost use Rattle.machine.specs.Level.{level, level_of, Variables, onward, copied, values_from, given};
 ghost use Rattle.machine.specs.Nested.{running_routine, waiting, newest_of};
 
 use crate::frame::Frame;
@@ -59,6 +59,7 @@ impl Stack {
         requires some { 0 < length (waiting self.old) }
         requires there { a + count ≤ length (running_routine self.old).registers }
         requires room { into + count ≤ length (newest_of (waiting self.old)).registers }
+        requires variables { Variables (newest_of (waiting self.old)) into count }
         requires place { (newest_of (waiting self.old)).pc < 2 ^ 32 }
         ensures running { running_routine self.new ≡ onward (newest_of (waiting self.old)) (given (newest_of (waiting self.old)).registers into (values_from (running_routine self.old).registers a count)) }
         ensures waiting { waiting self.new ≡ drop 1 (waiting self.old) }

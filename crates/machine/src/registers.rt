@@ -1,9 +1,9 @@
 // What an instruction does to the registers of the running routine. That a register is there relates an argument to the
 // frame: it is a fact of neither alone, and each method asks it. Numbers of registers become indices by `as`: from u8 it loses
 // nothing, and `usize::from` says it no plainer.
-ghost use Rattle.std.specs.Prelude.{◌≡◌, ◌+◌, ◌-◌, ◌^◌, ◌<◌, ◌≤◌, [], ◌∷◌, ◌++◌, length, map, take, drop, slice_set};
+ghost use Rattle.std.specs.Prelude.{◌≡◌, false, ◌+◌, ◌-◌, ◌^◌, ◌<◌, ◌≤◌, [], ◌∷◌, ◌++◌, length, map, take, drop, slice_set};
 ghost use Rattle.machine.specs.declared.frame.Register.TheVariants.{Variable};
-ghost use Rattle.machine.specs.Level.{level, level_of, value_of, value, still, onward, exchanged, as_variables, given};
+ghost use Rattle.machine.specs.Level.{level, level_of, is_constant, variable_at, Variables, value_of, value, still, onward, exchanged, as_variables, given};
 ghost use Rattle.machine.specs.Shown.{register_of};
 
 use crate::frame::{Frame, REGISTERS, Register};
@@ -14,6 +14,19 @@ impl Register {
     {
         match self {
             Register::Variable(v) | Register::Constant(v) => v,
+        }
+    }
+}
+
+impl Register {
+    // Gives a variable the value v. Only the value is written; as no instruction writes a constant, none is asked for.
+    fn set(&mut self, v: u32)
+        requires { is_constant self.old ≡ false }
+        ensures { self.new ≡ Variable v }
+    {
+        match self {
+            Register::Variable(value) => *value = v,
+            Register::Constant(value) => *value = v,
         }
     }
 }
@@ -63,17 +76,19 @@ impl Frame {
         self.registers()[a as usize].value()
     }
 
-    // Makes a variable of value v of register k.
+    // Gives register k, which is a variable, the value v.
     fn put(&mut self, k: usize, v: u32)
-        requires { k < length (level_of self.old).registers }
+        requires there { k < length (level_of self.old).registers }
+        requires variable { variable_at (level_of self.old) k }
         ensures { level_of self.new ≡ still (level_of self.old) (slice_set (level_of self.old).registers k (Variable v)) }
     {
-        self.registers[k] = Register::Variable(v);
+        self.registers[k].set(v);
     }
 
     // The same of a register that an instruction names.
     pub(crate) fn write(&mut self, a: u8, v: u32)
-        requires { a < length (level_of self.old).registers }
+        requires there { a < length (level_of self.old).registers }
+        requires variable { variable_at (level_of self.old) a }
         ensures { level_of self.new ≡ still (level_of self.old) (slice_set (level_of self.old).registers a (Variable v)) }
     {
         self.put(a as usize, v);
@@ -83,6 +98,7 @@ impl Frame {
     pub(crate) fn swap(&mut self, a: u8, b: u8)
         requires first { a < length (level_of self.old).registers }
         requires second { b < length (level_of self.old).registers }
+        requires variables { variable_at (level_of self.old) a × variable_at (level_of self.old) b }
         ensures { level_of self.new ≡ still (level_of self.old) (exchanged (level_of self.old) a b) }
     {
         let first = self.read(a);
@@ -116,7 +132,8 @@ impl Frame {
         self.pc += 1;
     }
 
-    // Another routine begins in its place, with these arguments as variables.
+    // Another routine begins in its place, with these arguments as variables. Lists of one and of two are copied without a loop, here
+    // and in `take`: the compiler prepares a loop for long lists, which costs more than to copy a short one.
     #[inline(always)]
     pub(crate) fn begin(&mut self, routine: usize, arguments: &[Register])
         requires { length arguments.now ≤ 32 }
@@ -124,15 +141,35 @@ impl Frame {
     {
         self.routine = routine;
         self.pc = 0;
-        self.depth = arguments.len();
-        self.take(0, arguments);
+        self.depth = 0;
+        match arguments {
+            [] => {}
+            [only] => self.push(Register::Variable(only.value())),
+            [first, second] => {
+                // Both are read before one is written, so that the depth is stored once.
+                let [first, second] = [first.value(), second.value()];
+                self.push(Register::Variable(first));
+                self.push(Register::Variable(second));
+            }
+            _ => self.push_many(arguments),
+        }
     }
 
-    // Takes results into its registers from one on. Lists of one and of two are taken without a loop: the compiler prepares a loop
-    // for long lists, which costs more than to copy a short one.
+    #[inline(never)]
+    fn push_many(&mut self, arguments: &[Register])
+        requires { length (level_of self.old).registers + length arguments.now ≤ 32 }
+        ensures { level_of self.new ≡ still (level_of self.old) ((level_of self.old).registers ++ as_variables arguments.now) }
+    {
+        for argument in arguments {
+            self.push(Register::Variable(argument.value()));
+        }
+    }
+
+    // Takes results into its registers from one on.
     #[inline(always)]
     pub(crate) fn take(&mut self, into: usize, results: &[Register])
-        requires { into + length results.now ≤ length (level_of self.old).registers }
+        requires there { into + length results.now ≤ length (level_of self.old).registers }
+        requires variables { Variables (level_of self.old) into (length results.now) }
         ensures { level_of self.new ≡ still (level_of self.old) (given (level_of self.old).registers into (map value_of results.now)) }
     {
         match results {
@@ -148,11 +185,12 @@ impl Frame {
 
     #[inline(never)]
     fn take_many(&mut self, into: usize, results: &[Register])
-        requires { into + length results.now ≤ length (level_of self.old).registers }
+        requires there { into + length results.now ≤ length (level_of self.old).registers }
+        requires variables { Variables (level_of self.old) into (length results.now) }
         ensures { level_of self.new ≡ still (level_of self.old) (given (level_of self.old).registers into (map value_of results.now)) }
     {
-        // By index: with `self.registers[into as usize..].iter_mut().zip(results)` what the registers hold after the loop stayed open,
-        // as a proof knows nothing of what an adapter of `iter_mut` gives back.
+        // By index: with `self.registers[into..].iter_mut().zip(results)` what the registers hold after the loop stayed open, as a
+        // proof knows nothing of what an adapter of `iter_mut` gives back.
         for (k, result) in results.iter().enumerate() {
             self.put(into + k, result.value());
         }

@@ -40,17 +40,17 @@ impl Machine {
     }
 
     // Begins routine n, with arguments from register b on, and answers its body.
-    fn call<'a>(&mut self, checked: &Checked<'a>, a: u8, b: u8, n: u32) -> Result<Body<'a>, Cause>
-        requires { Stands (bytes_of checked.now.opened) (Call a b n) self.old }
-        ensures done { OnOk result (PerformedOverAnyHost (bytes_of checked.now.opened) (Call a b n) self.old self.new) }
-        ensures runs { IfOk result (RunsBody (bytes_of checked.now.opened) self.new) }
-        ensures tripped { IfErr result (λ cause. (rule : List Port → List Port) (ports : List Port) → effect_in (bytes_of checked.now.opened) rule (Call a b n) self.old ports ≡ trips (cause_of cause)) }
+    fn call<'a>(&mut self, code: Body<'a>, a: u8, b: u8, n: u32) -> Result<Body<'a>, Cause>
+        requires { Stands (bytes_behind code) (Call a b n) self.old }
+        ensures done { OnOk result (PerformedOverAnyHost (bytes_behind code.entry) (Call a b n) self.old self.new) }
+        ensures runs { IfOk result (RunsBody (bytes_behind code.entry) self.new) }
+        ensures tripped { IfErr result (λ cause. (rule : List Port → List Port) (ports : List Port) → effect_in (bytes_behind code.entry) rule (Call a b n) self.old ports ≡ trips (cause_of cause)) }
         ensures unchanged { OnErr result (self.new ≡ self.old) }
     {
         if self.stack.callers() == MOST_NESTED - 1 {
             return Err(Cause::TooDeep);
         }
-        let callee = checked.body(n as usize).unwrap();
+        let callee = code.of(n as usize);
         self.stack
             .enter(n as usize, b, callee.signature().arguments);
         Ok(callee)
@@ -64,11 +64,11 @@ impl Machine {
     }
 
     // Returns the results from register a on and answers the body of the routine that goes on, or ends the run.
-    fn give_back<'a>(&mut self, checked: &Checked<'a>, code: Body<'a>, a: u8) -> Option<Body<'a>>
-        requires stands { Stands (bytes_of checked.now.opened) (Ret a) self.old }
-        requires runs { RunsBody (bytes_of checked.now.opened) self.old code }
-        ensures done { PerformedOverAnyHost (bytes_of checked.now.opened) (Ret a) self.old self.new }
-        ensures runs { IfSome result (RunsBody (bytes_of checked.now.opened) self.new) }
+    fn give_back<'a>(&mut self, code: Body<'a>, a: u8) -> Option<Body<'a>>
+        requires stands { Stands (bytes_behind code) (Ret a) self.old }
+        requires runs { RunsBody (bytes_behind code) self.old code }
+        ensures done { PerformedOverAnyHost (bytes_behind code.entry) (Ret a) self.old self.new }
+        ensures runs { IfSome result (RunsBody (bytes_behind code.entry) self.new) }
         ensures ended { IfNone result (self.new.state ≡ Ended) }
     {
         if self.ends_run() {
@@ -76,7 +76,7 @@ impl Machine {
             return None;
         }
         let caller = self.stack.caller();
-        let below = checked.body(caller.routine).unwrap();
+        let below = code.of(caller.routine);
         let Instr::Call { a: into, .. } = below.instruction(caller.pc) else {
             unreachable()
         };
@@ -85,23 +85,23 @@ impl Machine {
     }
 
     // The step at which a routine stops: it calls, returns or trips. It answers the body of the routine that runs then, if one does.
-    fn pass<'a>(&mut self, checked: &Checked<'a>, code: Body<'a>, stop: Stop) -> Option<Body<'a>>
-        requires runs { RunsBody (bytes_of checked.now.opened) self.old code }
-        requires foretold { as_foretold (bytes_of checked.now.opened) (world_of self.old []) ≡ true }
-        requires stands { StandsAtStop (bytes_of checked.now.opened) (running_routine self.old.stack) stop }
-        ensures step { (rule : List Port → List Port) (ports : List Port) → Stops (bytes_of checked.now.opened) rule (running_routine self.old.stack) self.old.memory.bytes ports stop → step (bytes_of checked.now.opened) rule (world_of self.old ports) ≡ Some (world_of self.new ports) }
-        ensures runs { IfSome result (RunsBody (bytes_of checked.now.opened) self.new) }
+    fn pass<'a>(&mut self, code: Body<'a>, stop: Stop) -> Option<Body<'a>>
+        requires runs { RunsBody (bytes_behind code) self.old code }
+        requires foretold { as_foretold (bytes_behind code) (world_of self.old []) ≡ true }
+        requires stands { StandsAtStop (bytes_behind code) (running_routine self.old.stack) stop }
+        ensures step { (rule : List Port → List Port) (ports : List Port) → Stops (bytes_behind code.entry) rule (running_routine self.old.stack) self.old.memory.bytes ports stop → step (bytes_behind code.entry) rule (world_of self.old ports) ≡ Some (world_of self.new ports) }
+        ensures runs { IfSome result (RunsBody (bytes_behind code.entry) self.new) }
         ensures stopped { IfNone result ((world_of self.new []).phase ≢ running) }
     {
         match stop {
-            Stop::Call { a, b, n } => match self.call(checked, a, b, n) {
+            Stop::Call { a, b, n } => match self.call(code, a, b, n) {
                 Ok(callee) => Some(callee),
                 Err(cause) => {
                     self.trip(cause);
                     None
                 }
             },
-            Stop::Return { a } => self.give_back(checked, code, a),
+            Stop::Return { a } => self.give_back(code, a),
             Stop::Trip(cause) => {
                 self.trip(cause);
                 None
@@ -128,26 +128,25 @@ impl Machine {
     // is left, and the body of the routine that runs then, if one does.
     fn turn<'a, H: Host>(
         &mut self,
-        checked: &Checked<'a>,
         code: Body<'a>,
         host: &mut H,
         fuel: u32,
     ) -> (u32, Option<Body<'a>>)
         requires fuel { 0 < fuel }
-        requires runs { RunsBody (bytes_of checked.now.opened) self.old code }
-        requires foretold { as_foretold (bytes_of checked.now.opened) (world_of self.old []) ≡ true }
+        requires runs { RunsBody (bytes_behind code) self.old code }
+        requires foretold { as_foretold (bytes_behind code) (world_of self.old []) ≡ true }
         ensures less { result.0 < fuel }
-        ensures goes { Goes (bytes_of checked.now.opened) (H.rule (H.base host.old)) (fuel - result.0) (world_of self.old (H.ports host.old)) (world_of self.new (H.ports host.new)) }
-        ensures runs { IfSome result.1 (RunsBody (bytes_of checked.now.opened) self.new) }
+        ensures goes { Goes (bytes_behind code.entry) (H.rule (H.base host.old)) (fuel - result.0) (world_of self.old (H.ports host.old)) (world_of self.new (H.ports host.new)) }
+        ensures runs { IfSome result.1 (RunsBody (bytes_behind code.entry) self.new) }
         ensures stopped { IfNone result.1 ((world_of self.new []).phase ≢ running) }
-        ensures foretold { as_foretold (bytes_of checked.now.opened) (world_of self.new []) ≡ true }
+        ensures foretold { as_foretold (bytes_behind code.entry) (world_of self.new []) ≡ true }
         ensures base { H.base host.new ≡ H.base host.old }
     {
         let (left, stop) = self.within(code, host, fuel);
         let Some(stop) = stop else {
             return (left, Some(code));
         };
-        let next = self.pass(checked, code, stop);
+        let next = self.pass(code, stop);
         (left - 1, next)
     }
 
@@ -167,7 +166,7 @@ impl Machine {
         let mut code = checked.body(self.stack.running().routine).unwrap();
         let mut left = fuel;
         while left > 0 {
-            let (rest, next) = self.turn(checked, code, host, left);
+            let (rest, next) = self.turn(code, host, left);
             left = rest;
             let Some(next) = next else {
                 break;

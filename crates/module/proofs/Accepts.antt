@@ -104,7 +104,7 @@ variable_at (f ∷ s) (suc k) h lt = variable_at s k (and_parts (not f) (all_var
 in_depth : (d : ℕ) (p : Span) (k : ℕ) → within_depth d p ≡ true → In p k → k < d
 in_depth d p k h m = omega (arith, leb-true (p.first + p.len) d h, m.0, m.1)
 
-in_variables : (s : List Bool) (p : Span) (k : ℕ) → spares s p ≡ true → In p k → k < length s → get_or s k true ≡ false
+pub in_variables : (s : List Bool) (p : Span) (k : ℕ) → spares s p ≡ true → In p k → k < length s → get_or s k true ≡ false
 in_variables s p k h m lt =
     let j = k - p.first in
     let e : p.first + j ≡ k = omega (arith, m.0) in

@@ -40,6 +40,25 @@ impl<'a> Checked<'a> {
     }
 }
 
+impl<'a> Body<'a> {
+    ghost use Rattle.module.specs.Told.{bytes_behind, routine_of};
+
+    /// The body of a routine of the same module. That there is such a routine is not tested: the check tested it for each CALL.
+    #[inline(always)]
+    pub fn of(self, routine: usize) -> Body<'a>
+        requires { routine < routines (bytes_behind self) }
+        ensures bytes { bytes_behind result ≡ bytes_behind self.entry }
+        ensures routine { routine_of result ≡ routine }
+    {
+        let bytes = self.bytes;
+        Body {
+            bytes,
+            routine,
+            at: offset_of(bytes, routine),
+        }
+    }
+}
+
 impl Body<'_> {
     ghost use Rattle.module.specs.Told.{bytes_behind, routine_of};
 

@@ -43,8 +43,8 @@ pub(crate) fn row_from(bytes: &[u8], at: usize) -> Row
     }
 }
 
-// The row that begins at a byte. Its first fields are read at once: they say which registers an instruction takes, and what it makes of
-// them waits for that. The last one is read when it is asked for, as most instructions have none.
+// The row that begins at a byte. Its first fields are read at once: they say which registers an instruction takes, and what it makes
+// of them waits for that. The last one is read when it is asked for, as most instructions have none.
 #[derive(Clone, Copy)]
 pub(crate) struct RowAt<'a> {
     bytes: &'a [u8],

@@ -15,6 +15,7 @@ use Rattle.machine.specs.Memory.{fits, loading, storing}
 use Rattle.machine.specs.World.{goes, trips, or_trip, or_refused, effect, is_return}
 use Rattle.machine.proofs.Soundness.{foretold_ready}
 use Rattle.machine.proofs.Steps.{next, on_none}
+use Rattle.machine.proofs.Legal.{first_spare, second_spare}
 use Rattle.machine.proofs.OwnSteps.{ready_here, moved, stopped}
 use Rattle.machine.proofs.frame.Frame.perform.Goals as goal
 
@@ -49,7 +50,7 @@ read-requires g c =
 pub write-requires : goal.write-requires
 write-requires g c =
     let r = ready_here c.args.code (jumped (level_of c.args.self.now) c.args.pc) c.requires.routine c.instruction.ensures c.requires.foretold c.in-Mov.is in
-    omega (arith, r.legal.fit.write)
+    record { there = omega (arith, r.legal.fit.write); variable = first_spare r c.in-Mov.a (omega arith) (omega (arith, r.legal.fit.write)) }
 
 pub swap-requires-clause-first : goal.swap-requires-clause-first
 swap-requires-clause-first g c =
@@ -60,6 +61,11 @@ pub swap-requires-clause-second : goal.swap-requires-clause-second
 swap-requires-clause-second g c =
     let r = ready_here c.args.code (jumped (level_of c.args.self.now) c.args.pc) c.requires.routine c.instruction.ensures c.requires.foretold c.in-Swap.is in
     omega (arith, r.legal.fit.read2)
+
+pub swap-requires-clause-variables : goal.swap-requires-clause-variables
+swap-requires-clause-variables g c =
+    let r = ready_here c.args.code (jumped (level_of c.args.self.now) c.args.pc) c.requires.routine c.instruction.ensures c.requires.foretold c.in-Swap.is in
+    (first_spare r c.in-Swap.a (omega arith) (omega (arith, r.legal.fit.read)), second_spare r c.in-Swap.b (omega arith) (omega (arith, r.legal.fit.read2)))
 
 pub read-requires-in-Calc : goal.read-requires-in-Calc
 read-requires-in-Calc g c =
@@ -74,7 +80,7 @@ read-requires-in-Calc-2 g c =
 pub write-requires-in-Calc : goal.write-requires-in-Calc
 write-requires-in-Calc g c =
     let r = ready_here c.args.code (jumped (level_of c.args.self.now) c.args.pc) c.requires.routine c.instruction.ensures c.requires.foretold c.in-Calc.is in
-    omega (arith, r.legal.fit.write)
+    record { there = omega (arith, r.legal.fit.write); variable = first_spare r c.in-Calc.a (omega arith) (omega (arith, r.legal.fit.write)) }
 
 pub read-requires-in-Divide : goal.read-requires-in-Divide
 read-requires-in-Divide g c =
@@ -89,7 +95,7 @@ read-requires-in-Divide-2 g c =
 pub write-requires-in-Divide : goal.write-requires-in-Divide
 write-requires-in-Divide g c =
     let r = ready_here c.args.code (jumped (level_of c.args.self.now) c.args.pc) c.requires.routine c.instruction.ensures c.requires.foretold c.in-Divide.is in
-    omega (arith, r.legal.fit.write)
+    record { there = omega (arith, r.legal.fit.write); variable = first_spare r c.in-Divide.a (omega arith) (omega (arith, r.legal.fit.write)) }
 
 pub address-address-requires : goal.address-address-requires
 address-address-requires g c =
@@ -99,7 +105,7 @@ address-address-requires g c =
 pub write-requires-in-Load : goal.write-requires-in-Load
 write-requires-in-Load g c =
     let r = ready_here c.args.code (jumped (level_of c.args.self.now) c.args.pc) c.requires.routine c.instruction.ensures c.requires.foretold c.in-Load.is in
-    omega (arith, r.legal.fit.write)
+    record { there = omega (arith, r.legal.fit.write); variable = first_spare r c.in-Load.a (omega arith) (omega (arith, r.legal.fit.write)) }
 
 pub address-address-requires-in-Store : goal.address-address-requires-in-Store
 address-address-requires-in-Store g c =
@@ -124,7 +130,7 @@ read-requires-in-Branch-2 g c =
 pub write-requires-in-Ok : goal.write-requires-in-Ok
 write-requires-in-Ok g c =
     let r = ready_here c.args.code (jumped (level_of c.args.self.now) c.args.pc) c.requires.routine c.instruction.ensures c.requires.foretold c.in-Get.is in
-    omega (arith, r.legal.fit.write)
+    record { there = omega (arith, r.legal.fit.write); variable = first_spare r c.in-Get.a (omega arith) (omega (arith, r.legal.fit.write)) }
 
 pub read-requires-in-Put : goal.read-requires-in-Put
 read-requires-in-Put g c =

@@ -4,19 +4,17 @@ use Rattle.isa.specs.declared.access.Signature.{Signature}
 use Rattle.isa.specs.declared.instr.Instr.{Instr}
 use Rattle.isa.specs.declared.instr.Instr.TheVariants.{Call, Ret}
 use Rattle.module.specs.declared.body.Body.{Body}
-use Rattle.module.specs.declared.checked.Checked.{Checked}
 use Rattle.module.specs.Layout.{routines, count, results, signature}
 use Rattle.module.specs.Places.{instr_at}
-use Rattle.module.specs.Told.{bytes_of, bytes_behind, routine_of}
-use Rattle.module.proofs.Accepts.{accepts_checked}
+use Rattle.module.specs.Told.{bytes_behind, routine_of}
+use Rattle.module.proofs.Accepts.{accepts_body}
 use Rattle.machine.specs.declared.frame.Frame.{Frame}
 use Rattle.machine.specs.declared.machine.Machine.{Machine}
 use Rattle.machine.specs.Level.{level_of, onward, given, values_from}
 use Rattle.machine.specs.Nested.{running_routine, waiting, newest_of}
 use Rattle.machine.specs.World.{able, effect, handed, resumed, into, here}
 use Rattle.machine.specs.View.{RunsBody}
-use Rattle.machine.proofs.Bodies.{has_body, body_is}
-use Rattle.machine.proofs.Legal.{Ready, Waits, placed, stands_ready, returning}
+use Rattle.machine.proofs.Legal.{Ready, Waits, placed, stands_ready, first_spare, returning}
 use Rattle.machine.proofs.Frames.{split_first}
 use Rattle.machine.proofs.Steps.{went, has_ended}
 use Rattle.machine.proofs.machine.Machine.give_back.Goals as goal
@@ -25,31 +23,31 @@ use Rattle.machine.proofs.machine.Machine.give_back.Goals as goal
 gives : (bs : List ℕ) (m : Machine) (t : Body) → RunsBody bs m t → (s : Signature) → s ≡ signature (bytes_behind t) (routine_of t) → s.results ≡ results bs (running_routine m.stack).routine
 gives bs m t runs s e = ap (λ (x : Signature). x.results) (e ∙ (λ i. signature (runs.bytes i) (runs.routine i)))
 
--- a routine other than 0 that stands at its RET
-module _ (checked : Checked) (m : Machine) (a : ℕ) (can : able (bytes_of checked.opened) (running_routine m.stack) (waiting m.stack) ≡ true)
-    (stands : here (bytes_of checked.opened) (running_routine m.stack) ≡ Some (Ret a)) where
-  ret : Ready (bytes_of checked.opened) (running_routine m.stack) (Ret a)
-  ret = stands_ready checked m (Ret a) can stands refl
+-- a routine other than 0 that stands at its RET, over a body of its module
+module _ (code : Body) (m : Machine) (a : ℕ) (can : able (bytes_behind code) (running_routine m.stack) (waiting m.stack) ≡ true)
+    (stands : here (bytes_behind code) (running_routine m.stack) ≡ Some (Ret a)) where
+  ret : Ready (bytes_behind code) (running_routine m.stack) (Ret a)
+  ret = stands_ready code m (Ret a) can stands refl
 
   module _ (other : false ≡ eqb (running_routine m.stack).routine 0) where
-    waits : Waits (bytes_of checked.opened) (running_routine m.stack).routine (waiting m.stack)
-    waits = returning (bytes_of checked.opened) (accepts_checked checked) (running_routine m.stack) (waiting m.stack) a can stands (eqb-false _ 0 (sym other))
+    waits : Waits (bytes_behind code) (running_routine m.stack).routine (waiting m.stack)
+    waits = returning (bytes_behind code) (accepts_body code) (running_routine m.stack) (waiting m.stack) a can stands (eqb-false _ 0 (sym other))
 
     -- the frame of the routine that waits for it, and its body
     module _ (f : Frame) (first : level_of f ≡ newest_of (waiting m.stack)) where
-      there : (f.routine < routines (bytes_of checked.opened)) × (f.pc < count (bytes_of checked.opened) f.routine)
-      there = placed (bytes_of checked.opened) f.routine f.pc _ (ap (here (bytes_of checked.opened)) first ∙ waits.caller.stands)
+      there : (f.routine < routines (bytes_behind code)) × (f.pc < count (bytes_behind code) f.routine)
+      there = placed (bytes_behind code) f.routine f.pc _ (ap (here (bytes_behind code)) first ∙ waits.caller.stands)
 
-      module _ (t : Body) (is : (bytes_behind t ≡ bytes_of checked.opened) × (routine_of t ≡ f.routine)) where
+      module _ (t : Body) (bytes : bytes_behind t ≡ bytes_behind code) (routine : routine_of t ≡ f.routine) where
         inside_body : f.pc < count (bytes_behind t) (routine_of t)
         inside_body =
-            let same : count (bytes_behind t) (routine_of t) ≡ count (bytes_of checked.opened) f.routine = λ i. count (is.0 i) (is.1 i) in
+            let same : count (bytes_behind t) (routine_of t) ≡ count (bytes_behind code) f.routine = λ i. count (bytes i) (routine i) in
             omega (arith, same, there.1)
 
         stands_there : (x : Instr) → instr_at (bytes_behind t) (routine_of t) f.pc ≡ Some x → x ≡ Call waits.a waits.b (running_routine m.stack).routine
         stands_there x e =
             let both : Some x ≡ Some (Call waits.a waits.b (running_routine m.stack).routine)
-            = sym e ∙ (λ i. instr_at (is.0 i) (is.1 i) f.pc) ∙ ap (here (bytes_of checked.opened)) first ∙ waits.caller.stands in
+            = sym e ∙ (λ i. instr_at (bytes i) (routine i) f.pc) ∙ ap (here (bytes_behind code)) first ∙ waits.caller.stands in
             cc
 
 pub returns-then-ends_run-clause-done : goal.returns-then-ends_run-clause-done
@@ -58,51 +56,47 @@ returns-then-ends_run-clause-done c = λ rule ports.
     has_ended c.requires.stands.running (cond-true (eqb (running_routine c.args.self.now.stack).routine 0) _ _ (sym c.if-ends_run.ensures)) refl refl
 
 pub caller-caller-requires : goal.caller-caller-requires
-caller-caller-requires c = (waits c.args.checked.now c.args.self.now c.args.a c.requires.stands.able c.requires.stands.stands c.if-ends_run.ensures).some
+caller-caller-requires c = (waits c.args.code c.args.self.now c.args.a c.requires.stands.able c.requires.stands.stands c.if-ends_run.ensures).some
 
-pub unwrap-below-requires : goal.unwrap-below-requires
-unwrap-below-requires c =
-    let at = there c.args.checked.now c.args.self.now c.args.a c.requires.stands.able c.requires.stands.stands c.if-ends_run.ensures c.caller-caller.result.now c.caller-caller.ensures in
-    has_body (bytes_of c.args.checked.now.opened) c.caller-caller.result.now.routine c.body.result c.body.ensures at.0
+pub of-below-requires : goal.of-below-requires
+of-below-requires c =
+    (there c.args.code c.args.self.now c.args.a c.requires.stands.able c.requires.stands.stands c.if-ends_run.ensures c.caller-caller.result.now c.caller-caller.ensures).0
 
 pub instruction-requires : goal.instruction-requires
 instruction-requires c =
-    let is = body_is (bytes_of c.args.checked.now.opened) c.caller-caller.result.now.routine c.unwrap-below.ensures c.body.ensures in
-    inside_body c.args.checked.now c.args.self.now c.args.a c.requires.stands.able c.requires.stands.stands c.if-ends_run.ensures c.caller-caller.result.now c.caller-caller.ensures c.unwrap-below.result is
+    inside_body c.args.code c.args.self.now c.args.a c.requires.stands.able c.requires.stands.stands c.if-ends_run.ensures c.caller-caller.result.now c.caller-caller.ensures c.of-below.result c.of-below.ensures.bytes c.of-below.ensures.routine
 
 pub unreachable-requires : goal.unreachable-requires
 unreachable-requires c =
-    let is = body_is (bytes_of c.args.checked.now.opened) c.caller-caller.result.now.routine c.unwrap-below.ensures c.body.ensures in
-    c.in_default.not-Call _ _ _ (stands_there c.args.checked.now c.args.self.now c.args.a c.requires.stands.able c.requires.stands.stands c.if-ends_run.ensures c.caller-caller.result.now c.caller-caller.ensures c.unwrap-below.result is c.instruction.result c.instruction.ensures)
+    c.in_default.not-Call _ _ _ (stands_there c.args.code c.args.self.now c.args.a c.requires.stands.able c.requires.stands.stands c.if-ends_run.ensures c.caller-caller.result.now c.caller-caller.ensures c.of-below.result c.of-below.ensures.bytes c.of-below.ensures.routine c.instruction.result c.instruction.ensures)
 
 pub leave-requires : goal.leave-requires
 leave-requires c =
-    let bs = bytes_of c.args.checked.now.opened in
-    let r = ret c.args.checked.now c.args.self.now c.args.a c.requires.stands.able c.requires.stands.stands in
-    let w = waits c.args.checked.now c.args.self.now c.args.a c.requires.stands.able c.requires.stands.stands c.if-ends_run.ensures in
+    let bs = bytes_behind c.args.code in
+    let r = ret c.args.code c.args.self.now c.args.a c.requires.stands.able c.requires.stands.stands in
+    let w = waits c.args.code c.args.self.now c.args.a c.requires.stands.able c.requires.stands.stands c.if-ends_run.ensures in
     let n = gives bs c.args.self.now c.args.code c.requires.runs c.signature.result c.signature.ensures in
-    let is = body_is bs c.caller-caller.result.now.routine c.unwrap-below.ensures c.body.ensures in
-    let call = stands_there c.args.checked.now c.args.self.now c.args.a c.requires.stands.able c.requires.stands.stands c.if-ends_run.ensures c.caller-caller.result.now c.caller-caller.ensures c.unwrap-below.result is c.instruction.result c.instruction.ensures in
+    let call = stands_there c.args.code c.args.self.now c.args.a c.requires.stands.able c.requires.stands.stands c.if-ends_run.ensures c.caller-caller.result.now c.caller-caller.ensures c.of-below.result c.of-below.ensures.bytes c.of-below.ensures.routine c.instruction.result c.instruction.ensures in
     let at = c.in-Call.is in
     let first : c.in-Call.into ≡ w.a = cc in
     record {
       some = w.some;
       there = omega (arith, n, r.legal.fit.read);
       room = omega (arith, n, first, w.caller.legal.fit.write);
+      variables = λ k low high. first_spare w.caller k (omega (arith, n, first, low, high)) (omega (arith, n, first, high, w.caller.legal.fit.write));
       place = omega (arith, w.caller.place_low);
     }
 
 pub returns-clause-done : goal.returns-clause-done
 unfolding effect handed resumed into
 returns-clause-done c = λ rule ports.
-    let bs = bytes_of c.args.checked.now.opened in
+    let bs = bytes_behind c.args.code in
     let m = c.args.self.now in
     let l = running_routine m.stack in
     let g = newest_of (waiting m.stack) in
-    let w = waits c.args.checked.now m c.args.a c.requires.stands.able c.requires.stands.stands c.if-ends_run.ensures in
+    let w = waits c.args.code m c.args.a c.requires.stands.able c.requires.stands.stands c.if-ends_run.ensures in
     let n = gives bs m c.args.code c.requires.runs c.signature.result c.signature.ensures in
-    let is = body_is bs c.caller-caller.result.now.routine c.unwrap-below.ensures c.body.ensures in
-    let call = stands_there c.args.checked.now m c.args.a c.requires.stands.able c.requires.stands.stands c.if-ends_run.ensures c.caller-caller.result.now c.caller-caller.ensures c.unwrap-below.result is c.instruction.result c.instruction.ensures in
+    let call = stands_there c.args.code m c.args.a c.requires.stands.able c.requires.stands.stands c.if-ends_run.ensures c.caller-caller.result.now c.caller-caller.ensures c.of-below.result c.of-below.ensures.bytes c.of-below.ensures.routine c.instruction.result c.instruction.ensures in
     let at = c.in-Call.is in
     let first : c.in-Call.into ≡ w.a = cc in
     let wants : into bs g.routine (here bs g) ≡ w.a = ap (into bs g.routine) w.caller.stands in
@@ -114,9 +108,8 @@ returns-clause-done c = λ rule ports.
 
 pub returns-clause-runs : goal.returns-clause-runs
 returns-clause-runs c =
-    let is = body_is (bytes_of c.args.checked.now.opened) c.caller-caller.result.now.routine c.unwrap-below.ensures c.body.ensures in
     record {
       running = c.requires.stands.running;
-      bytes = is.0;
-      routine = is.1 ∙ ap (λ l. l.routine) c.caller-caller.ensures ∙ ap (λ l. l.routine) (sym c.leave.ensures.running);
+      bytes = c.of-below.ensures.bytes;
+      routine = c.of-below.ensures.routine ∙ ap (λ l. l.routine) c.caller-caller.ensures ∙ ap (λ l. l.routine) (sym c.leave.ensures.running);
     }

@@ -1,7 +1,7 @@
-use Rattle.std.proofs.Common.{◌≡◌, ◌≢◌, ℕ, ◌+◌, ◌-◌, ◌≤◌, List, [], IfSome, sym, refl, ap, ◌∙◌, subst, arith}
+use Rattle.std.proofs.Common.{◌≡◌, ◌≢◌, ℕ, ◌+◌, ◌-◌, ◌≤◌, List, [], true, IfSome, sym, refl, ap, ◌∙◌, subst, arith}
 use Rattle.std.specs.Option.{IfNone}
 use Rattle.module.specs.Told.{bytes_of}
-use Rattle.machine.specs.Foretold.{AsForetold}
+use Rattle.machine.specs.Foretold.{AsForetold, as_foretold}
 use Rattle.machine.specs.Fuel.{TickRule, steps, advanced, Goes}
 use Rattle.machine.specs.View.{world_of, RunsBody}
 use Rattle.machine.specs.World.{World, running}
@@ -33,13 +33,14 @@ loop-left-preserved g c =
     let rest = c.turn-rest.result.0 in
     let first = world_of c.args.self.now (h.ports c.args.host.now) in
     let later = world_of c.turn-rest.new.self (h.ports c.turn-rest.new.host) in
-    let more = subst (λ b. Goes bs (h.rule b) (c.loop-left.left - rest) (world_of c.loop-left.self (h.ports c.loop-left.host)) later) inv.base c.turn-rest.ensures.goes in
+    let own = subst (λ b. Goes b (h.rule (h.base c.loop-left.host)) (c.loop-left.left - rest) (world_of c.loop-left.self (h.ports c.loop-left.host)) later) inv.runs.bytes c.turn-rest.ensures.goes in
+    let more = subst (λ b. Goes bs (h.rule b) (c.loop-left.left - rest) (world_of c.loop-left.self (h.ports c.loop-left.host)) later) inv.base own in
     let all : c.args.fuel - c.loop-left.left + (c.loop-left.left - rest) ≡ c.args.fuel - rest = omega (arith, inv.few, c.turn-rest.ensures.less) in
     record {
       goes = subst (λ n. Goes bs rule n first later) all (goes_then bs rule inv.goes more);
       few = omega (arith, c.turn-rest.ensures.less, inv.few);
-      runs = subst (λ o. IfSome o (RunsBody bs c.turn-rest.new.self)) c.in-Some.is c.turn-rest.ensures.runs;
-      foretold = c.turn-rest.ensures.foretold;
+      runs = subst (λ o. IfSome o (RunsBody bs c.turn-rest.new.self)) c.in-Some.is (subst (λ b. IfSome c.turn-rest.result.1 (RunsBody b c.turn-rest.new.self)) inv.runs.bytes c.turn-rest.ensures.runs);
+      foretold = subst (λ b. as_foretold b (world_of c.turn-rest.new.self []) ≡ true) inv.runs.bytes c.turn-rest.ensures.foretold;
       base = c.turn-rest.ensures.base ∙ inv.base;
     }
 
@@ -66,7 +67,8 @@ returns-clause-made g c =
       | then-loop-left-test+in_default-next w ↦
           let rest = w.turn-rest.result.0 in
           let later = world_of w.turn-rest.new.self (h.ports w.turn-rest.new.host) in
-          let more = subst (λ b. Goes bs (h.rule b) (c.loop-left.left - rest) (world_of c.loop-left.self (h.ports c.loop-left.host)) later) inv.base w.turn-rest.ensures.goes in
+          let own = subst (λ b. Goes b (h.rule (h.base c.loop-left.host)) (c.loop-left.left - rest) (world_of c.loop-left.self (h.ports c.loop-left.host)) later) inv.runs.bytes w.turn-rest.ensures.goes in
+          let more = subst (λ b. Goes bs (h.rule b) (c.loop-left.left - rest) (world_of c.loop-left.self (h.ports c.loop-left.host)) later) inv.base own in
           let all : fuel - c.loop-left.left + (c.loop-left.left - rest) ≡ fuel - rest = omega (arith, inv.few, w.turn-rest.ensures.less) in
           let goes = subst (λ n. Goes bs rule n first later) all (goes_then bs rule inv.goes more) in
           let stopped = subst (λ o. IfNone o ((world_of w.turn-rest.new.self []).phase ≢ running)) w.in_default-next.is w.turn-rest.ensures.stopped in
@@ -88,7 +90,8 @@ returns-clause-world g c =
       | then-loop-left-test+in_default-next w ↦
           let rest = w.turn-rest.result.0 in
           let later = world_of w.turn-rest.new.self (h.ports w.turn-rest.new.host) in
-          let more = subst (λ b. Goes bs (h.rule b) (c.loop-left.left - rest) (world_of c.loop-left.self (h.ports c.loop-left.host)) later) inv.base w.turn-rest.ensures.goes in
+          let own = subst (λ b. Goes b (h.rule (h.base c.loop-left.host)) (c.loop-left.left - rest) (world_of c.loop-left.self (h.ports c.loop-left.host)) later) inv.runs.bytes w.turn-rest.ensures.goes in
+          let more = subst (λ b. Goes bs (h.rule b) (c.loop-left.left - rest) (world_of c.loop-left.self (h.ports c.loop-left.host)) later) inv.base own in
           let all : fuel - c.loop-left.left + (c.loop-left.left - rest) ≡ fuel - rest = omega (arith, inv.few, w.turn-rest.ensures.less) in
           let goes = subst (λ n. Goes bs rule n first later) all (goes_then bs rule inv.goes more) in
           (λ i. world_of (w.self-is i) (h.ports (w.host-is i))) ∙ sym goes.reaches ∙ (λ i. advanced bs rule (fuel - sym w.left-is i) first)

@@ -1,5 +1,6 @@
-use Rattle.std.proofs.Common.{length, map, take, drop, ap, ◌∙◌, arith}
-use Rattle.machine.specs.Level.{value_of, onward, given}
+use Rattle.std.proofs.Common.{length, get_or, map, take, drop, ap, ◌∙◌, arith}
+use Rattle.machine.specs.declared.frame.Register.TheVariants.{Variable}
+use Rattle.machine.specs.Level.{is_constant, value_of, onward, given}
 use Rattle.machine.specs.Nested.{running_routine, waiting}
 use Rattle.machine.proofs.Frames.{some_waits, ending, going_on, ended_running, ended_waiting}
 use Rattle.machine.proofs.stack.Stack.leave.Goals as goal
@@ -20,7 +21,12 @@ pub take-requires : goal.take-requires
 take-requires c =
     let s = c.args.self.now in
     let caller = going_on s (omega arith) _ _ (some_waits s c.requires.some) c.split_at_mut-below.ensures.front c.split_at_mut-below.ensures.back c.index-below-index.result in
-    omega (arith, ap (λ l. length l.registers) caller)
+    record {
+      there = omega (arith, ap (λ l. length l.registers) caller, c.span.ensures.length, c.requires.room);
+      variables = λ k low high.
+          ap (λ l. is_constant (get_or l.registers k (Variable 0))) caller
+          ∙ c.requires.variables k low (omega (arith, high, c.span.ensures.length));
+    }
 
 pub skip-requires : goal.skip-requires
 skip-requires c =
