@@ -48,10 +48,3 @@ module _ (bs : List ℕ) (rule : TickRule) where
             let counted = ap (λ k. steps bs rule k w) same ∙ first.counts (n + more) in
             omega (arith, counted, later.counts more);
       }
-
-  -- so much fuel makes all of these steps
-  pub goes_all : {n : ℕ} {w v : World} → Goes bs rule n w v → steps bs rule n w ≡ n
-  goes_all {n} {w} {v} goes =
-      let same : n + 0 ≡ n = omega arith in
-      let counted = ap (λ k. steps bs rule k w) (sym same) ∙ goes.counts 0 in
-      omega (arith, counted)
