@@ -60,7 +60,7 @@ fn is_formed(row: Row) -> bool
     }
 }
 
-/// Where the five fields of a row are read: from the row itself, or from the bytes in which it stands, each when it is asked for.
+/// Where the five fields of a row are read: from the row itself, or from the bytes in which it stands.
 pub trait Fields {
     // The row whose fields they are.
     ghost whole: { Self → Row };

@@ -1,6 +1,6 @@
-// What an instruction does to the registers of the running routine. That a register is there relates an argument to the
-// frame: it is a fact of neither alone, and each method asks it. Numbers of registers become indices by `as`: from u8 it loses
-// nothing, and `usize::from` says it no plainer.
+// What an instruction does to the registers of the running routine. That a register is there, or is a variable, relates an
+// argument to the frame: it is a fact of neither alone, and each method asks it. Numbers of registers become indices by `as`: from
+// u8 it loses nothing, and `usize::from` says it no plainer.
 ghost use Rattle.std.specs.Prelude.{◌≡◌, false, ◌+◌, ◌-◌, ◌^◌, ◌<◌, ◌≤◌, [], ◌∷◌, ◌++◌, length, map, take, drop, slice_set};
 ghost use Rattle.machine.specs.declared.frame.Register.TheVariants.{Variable};
 ghost use Rattle.machine.specs.Level.{level, level_of, is_constant, variable_at, Variables, value_of, value, still, onward, exchanged, as_variables, given};
@@ -19,7 +19,7 @@ impl Register {
 }
 
 impl Register {
-    // Gives a variable the value v. Only the value is written; as no instruction writes a constant, none is asked for.
+    // Gives a variable the value v. No constant comes here; both arms write the value alone, so that no test is left of them.
     fn set(&mut self, v: u32)
         requires { is_constant self.old ≡ false }
         ensures { self.new ≡ Variable v }
