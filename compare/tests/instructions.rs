@@ -307,11 +307,11 @@ fn the_table_of_accesses() {
             let mut drive = Drive::start(checked(&module));
             let answer = drive.grant(&mut Host::axis(), 5).unwrap();
             let mut memory = image.clone();
-            if outcome.starts_with("trap") {
+            if outcome.starts_with("trip") {
                 let State::Tripped(trip) = answer.state else {
                     panic!("it does not trip");
                 };
-                let said = format!("trap {}, detail {}", trip.cause.number(), address);
+                let said = format!("trip {}, detail {}", trip.cause.number(), address);
                 assert_eq!(said, outcome);
                 assert_eq!(trip.cause.detail(), address);
                 assert_eq!(trip.cause, Cause::MemoryPassed { address });

@@ -32,7 +32,7 @@ fn examine<'a>(bytes: &'a [u8], sheet: &mut [ShapeRow]) -> Result<Checked<'a>, R
     ensures sheet { sheet.new ≡ sheet_after bytes.now sheet.old }
     ensures bytes { IfOk result (λ m. bytes_of m.opened ≡ bytes.now) }
 {
-    open(bytes)?.into_checked(sheet)
+    Ok(open(bytes)?.check(sheet)?)
 }
 
 // Makes a call to a new drive of a checked module, and adds the lines of its run.

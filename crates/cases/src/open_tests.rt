@@ -5,6 +5,7 @@ use isa::instr::Instr;
 use module::open::open;
 use module::opened::Counts;
 use module::shape::ShapeRow;
+use refusal::Refusal;
 
 const RET: [Instr; 1] = [Instr::Ret { a: 0 }];
 
@@ -61,9 +62,16 @@ fn an_opened_and_a_taken_module_show_the_same(rt: HostRuntime) {
     let opened = open(&RAMP).expect(&rt, "the ramp is a module");
     assert!(rt; opened.counts() == counts);
     assert!(rt; opened.bytes() == &RAMP[..]);
-    let answer = opened.check(&mut [ShapeRow::BLANK; 6]);
-    assert!(rt; answer.is_ok());
-    let checked = opened.take();
+    let refused = opened
+        .check(&mut [ShapeRow::BLANK; 5])
+        .err()
+        .expect(&rt, "too short a sheet");
+    assert!(rt; refused.refusal == Refusal::Sheet);
+    let checked = refused
+        .module
+        .check(&mut [ShapeRow::BLANK; 6])
+        .ok()
+        .expect(&rt, "a module");
     assert!(rt; checked.counts() == counts);
     assert!(rt; checked.bytes() == &RAMP[..]);
 }

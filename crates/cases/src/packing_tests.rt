@@ -140,7 +140,7 @@ const NO_PARTS: Parts<'static> = Parts {
 
 // Over a sheet that is long enough for every module of the tests.
 fn checked(bytes: &[u8]) -> Result<Checked<'_>, Refusal> {
-    open(bytes)?.into_checked(&mut [ShapeRow::BLANK; 64])
+    Ok(open(bytes)?.check(&mut [ShapeRow::BLANK; 64])?)
 }
 
 // A call of unpack: the module, and how many entries and rows there is room for. What it answers and writes, and the image.

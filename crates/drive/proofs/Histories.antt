@@ -1,7 +1,7 @@
 -- What is seen of a drive decides its log.
-use Rattle.std.proofs.Common.{◌≡◌, ℕ, zero, suc, ◌+◌, Bool, true, false, cond, List, [], ◌∷◌, ◌++◌, map, Some, None, Option, sym, refl, ap, ◌∙◌, subst, arith}
+use Rattle.std.proofs.Common.{◌≡◌, ℕ, zero, suc, ◌+◌, List, [], ◌∷◌, ◌++◌, map, Some, None, Option, sym, refl, ap, ◌∙◌, subst, arith}
 use Rattle.std.proofs.lemmas.List.{append-nil}
-use Rattle.refusal.specs.Values.{Values, caller}
+use Rattle.refusal.specs.Values.{Values}
 use Rattle.host.specs.Ports.{rested}
 use Rattle.machine.specs.Foretold.{begun}
 use Rattle.machine.specs.World.{Phase, running, ended, tripped, World}
@@ -9,23 +9,10 @@ use Rattle.machine.specs.Fuel.{TickRule, by_phase, next, steps, advanced}
 use Rattle.machine.proofs.Fuel.{none_made}
 use Rattle.drive.specs.declared.call.Call.{Call}
 use Rattle.drive.specs.declared.call.Call.TheVariants.{Grant, Restart, PowerCycle}
-use Rattle.drive.specs.Calls.{is_fuel, refusal, trips_of, Entry, cycle, Outcome, done, unless_refused, outcome}
+use Rattle.drive.specs.Calls.{refusal, trips_of, Entry, cycle, Outcome, done, unless_refused, outcome}
 use Rattle.drive.specs.Law.{Again, restart, power_cycle, History, history_from}
 use Rattle.drive.specs.Log.{Log, log, log_after, answers}
-
--- a call that is not refused is a grant to a running drive, or no grant
-grants_run : (fuel : ℕ) (phase : Phase) → refusal (Grant fuel) phase ≡ None → phase ≡ running
-grants_run fuel running h = refl
-grants_run fuel ended h = absurd (go (is_fuel fuel) h)
-  where
-    go : (b : Bool) → cond b (Some (caller 15)) (Some (caller 14)) ≡ None → ⊥
-    go true h = cc
-    go false h = cc
-grants_run fuel (tripped t) h = absurd (go (is_fuel fuel) h)
-  where
-    go : (b : Bool) → cond b (Some (caller 16)) (Some (caller 14)) ≡ None → ⊥
-    go true h = cc
-    go false h = cc
+use Rattle.drive.proofs.Grants.{grants_run}
 
 module _ (bs : List ℕ) (rule : TickRule) where
   -- a log some steps on: a step that trips is entered

@@ -11,7 +11,7 @@ use Rattle.faults.specs.declared.cause.Cause.TheVariants.{ZeroDivisor, MemoryPas
 use Rattle.faults.specs.Causes.{trip_of}
 use Rattle.machine.specs.declared.machine.State.{State}
 use Rattle.machine.specs.declared.machine.State.TheVariants.{Running, Ended, Tripped}
-use Rattle.machine.specs.View.{phase_of}
+use Rattle.machine.specs.Parts.{phase_of}
 use Rattle.machine.specs.World.{Phase}
 use Rattle.machine.specs.Fuel.{TickRule}
 use Rattle.drive.specs.declared.call.Call.{Call}
@@ -19,7 +19,7 @@ use Rattle.drive.specs.declared.call.Turn.{Turn}
 use Rattle.drive.specs.declared.drive.Drive.{Drive}
 use Rattle.drive.specs.Calls.{outcome}
 use Rattle.drive.specs.Log.{Log, new_log, after_call, log_after, answers, fault_list}
-use Rattle.drive.specs.Law.{Leads, Ran, Logged, is_listed, NotStuck, Sound, history, Law}
+use Rattle.drive.specs.Law.{Leads, Ran, Logged, is_listed, NotStuck, Sound, history, EveryRun}
 use Rattle.drive.specs.View.{Said, module_of, world_in, faults_in, by_values, call_of, said_of, Called, noted_all}
 use Rattle.drive.proofs.Entries.{fault_list_on}
 use Rattle.drive.proofs.Histories.{same_log}
@@ -105,9 +105,7 @@ is_sound rule d ports = record { not_stuck = by_state d.machine.state (phase_is 
     by_state (Tripped cause place) at = inr (inr (trip_of cause place, at, causes_listed cause place))
 
 -- the law
-pub law_holds : (bs : List ℕ) (rule : TickRule) (first : List Port) (calls : List Call) (said : List Said) (d : Drive) (ports : List Port)
-    → Ran bs rule first calls said d ports
-    → Law bs rule first calls said d ports
+pub law_holds : EveryRun
 law_holds bs rule first calls said d ports ran =
     let h = logged bs rule first calls said d ports ran in
     record {

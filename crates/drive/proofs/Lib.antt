@@ -4,5 +4,6 @@ pub mod Outcomes
 pub mod Restarts
 pub mod Places
 pub mod Entries
+pub mod Grants
 pub mod Histories
 pub mod Laws

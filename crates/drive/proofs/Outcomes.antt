@@ -7,7 +7,8 @@ use Rattle.host.specs.Ports.{rested}
 use Rattle.machine.specs.declared.machine.State.{State}
 use Rattle.machine.specs.declared.machine.State.TheVariants.{Running, Ended, Tripped}
 use Rattle.machine.specs.Foretold.{begun}
-use Rattle.machine.specs.View.{phase_of, world_of}
+use Rattle.machine.specs.Parts.{phase_of}
+use Rattle.machine.specs.View.{world_of}
 use Rattle.machine.specs.World.{Phase, running}
 use Rattle.machine.specs.Fuel.{TickRule, steps, advanced}
 use Rattle.drive.specs.declared.call.Call.{Call}

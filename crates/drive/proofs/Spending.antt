@@ -1,7 +1,8 @@
 -- The phase of a drive.
 use Rattle.std.proofs.Common.{◌≡◌, List, refl}
 use Rattle.host.specs.declared.port.Port.{Port}
-use Rattle.machine.specs.View.{phase_of, world_of}
+use Rattle.machine.specs.Parts.{phase_of}
+use Rattle.machine.specs.View.{world_of}
 use Rattle.drive.specs.declared.drive.Drive.{Drive}
 use Rattle.drive.specs.View.{world_in}
 

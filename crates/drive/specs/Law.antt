@@ -111,3 +111,10 @@ pub record Law (bs : List ℕ) (rule : TickRule) (first : List Port) (calls : Li
       → history calls2 said2 ≡ history calls said
       → Alike d ports e others
   pub logged : Logged bs rule first calls said d ports
+
+-- The law holds of every drive that was new and was called, whoever made the calls.
+abbrev pub EveryRun : Type 0
+EveryRun =
+    (bs : List ℕ) (rule : TickRule) (first : List Port) (calls : List Call) (said : List Said) (d : Drive) (ports : List Port)
+    → Ran bs rule first calls said d ports
+    → Law bs rule first calls said d ports

@@ -13,7 +13,7 @@ use module::open::open;
 use module::shape::ShapeRow;
 use packing::pack::pack;
 use packing::parts::Parts;
-use refusal::Place;
+use refusal::{Place, Refusal};
 use std::process::Abort;
 use std::test::Fail;
 
@@ -112,9 +112,8 @@ fn packed<'a>(
     Ok(&bytes[..length])
 }
 
-pub(crate) fn checked(module: &[u8]) -> Result<Checked<'_>, Fail> {
-    let mut sheet = [ShapeRow::BLANK; 64];
-    Ok(open(module)?.into_checked(&mut sheet)?)
+pub(crate) fn checked(module: &[u8]) -> Result<Checked<'_>, Refusal> {
+    Ok(open(module)?.check(&mut [ShapeRow::BLANK; 64])?)
 }
 
 pub(crate) fn start(module: &[u8]) -> Result<Drive<'_>, Fail> {

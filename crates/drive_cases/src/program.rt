@@ -12,7 +12,7 @@ use refusal::Refusal;
 
 // Opens and checks a module, starts a drive, and grants it 10,000 steps over a new axis.
 pub(crate) fn ramp(bytes: &[u8], sheet: &mut [ShapeRow]) -> Result<(u32, State), Refusal> {
-    let checked = open(bytes)?.into_checked(sheet)?;
+    let checked = open(bytes)?.check(sheet)?;
     let mut axis = AxisHost::new();
     let mut drive = Drive::start(checked);
     drive.grant(&mut axis, 10_000)

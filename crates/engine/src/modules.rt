@@ -38,7 +38,7 @@ pub(crate) fn examine<'a>(bytes: &'a [u8], sheet: &mut [ShapeRow]) -> Result<Che
     ensures sheet { sheet.new ≡ sheet_after bytes.now sheet.old }
     ensures bytes { IfOk result (λ m. bytes_of m.opened ≡ bytes.now) }
 {
-    open(bytes)?.into_checked(sheet)
+    Ok(open(bytes)?.check(sheet)?)
 }
 
 // The counts, and the rows of its instructions.

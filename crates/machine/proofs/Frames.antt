@@ -68,6 +68,19 @@ pub split_first : (ls : List Level) → 0 < length ls → ls ≡ newest_of ls �
 split_first [] h = absurd (omega arith)
 split_first (l ∷ ls) h = refl
 
+-- the stack s, with a frame f in the place of the running one
+abbrev pub with_frame : Stack → Frame → Stack
+with_frame s f = record { frames = set s.frames s.top.index f; top = s.top }
+
+module _ (s : Stack) (whole : length s.frames ≡ 32) (f : Frame) where
+  pub frame_runs : running_routine (with_frame s f) ≡ level_of f
+  unfolding running_routine
+  frame_runs = set_same s.frames s.top.index f (omega (arith, s.top.nested))
+
+  pub frame_waits : waiting (with_frame s f) ≡ waiting s
+  unfolding waiting
+  frame_waits = below_set s.frames s.top.index s.top.index f (omega arith)
+
 -- the frames of a stack, cut in two parts where a routine begins or ends
 module _ (s : Stack) (whole : length s.frames ≡ 32) (low high : List Frame) where
   -- where a routine is to begin

@@ -1,14 +1,19 @@
 -- Steps that are made one after the other, and the fuel that they use.
-use Rattle.std.proofs.Common.{◌≡◌, ◌≢◌, ℕ, zero, suc, ◌+◌, List, Some, sym, refl, ap, ◌∙◌, arith}
+use Rattle.std.proofs.Common.{◌≡◌, ◌≢◌, ℕ, zero, suc, ◌+◌, true, List, Some, sym, refl, ap, ◌∙◌, subst, arith}
 use Rattle.std.specs.Prelude.{unwrap_or}
 use Rattle.machine.specs.World.{Phase, running, ended, tripped, World, step}
-use Rattle.machine.specs.Fuel.{TickRule, by_phase, next, steps, advanced, Goes}
+use Rattle.machine.specs.Foretold.{NeverStuck, as_foretold}
+use Rattle.machine.specs.Fuel.{TickRule, by_phase, next, steps, advanced, StepsLead, Spends, Goes}
 
 -- a phase that is not running is one of the others
 pub other_phase : (p : Phase) → p ≢ running → (x : ℕ) → by_phase p x 0 0 ≡ 0
 other_phase running h x = absurd (h refl)
 other_phase ended h x = refl
 other_phase (tripped trip) h x = refl
+
+-- and one that is another is not running
+stopped_phase : {p : Phase} → ◌≡◌ {A = ℕ} (by_phase p 1 0 0) 0 → p ≢ running
+stopped_phase {p} other run = let z : ◌≡◌ {A = ℕ} 1 0 = sym (ap (λ q. by_phase q 1 0 0) run) ∙ other in omega (arith, z)
 
 module _ (bs : List ℕ) (rule : TickRule) where
   -- a machine that stopped makes none
@@ -48,3 +53,44 @@ module _ (bs : List ℕ) (rule : TickRule) where
             let counted = ap (λ k. steps bs rule k w) same ∙ first.counts (n + more) in
             omega (arith, counted, later.counts more);
       }
+
+-- Fuel is spent by steps of the rules: a world that is as foretold has a next one while it runs.
+module _ (bs : List ℕ) (rule : TickRule) (never : NeverStuck bs) where
+  abbrev SpendsAll : ℕ → World → ℕ → Type 0
+  SpendsAll fuel w n = Spends bs rule fuel w n (advanced bs rule n w)
+
+  -- none is spent where the machine does not run
+  none_spent : (fuel : ℕ) (w : World) → w.phase ≢ running → SpendsAll fuel w (steps bs rule fuel w)
+  none_spent fuel w other =
+      subst (SpendsAll fuel w) (sym (none_made bs rule fuel w (other_phase w.phase other)))
+      (record { within = omega arith; stopped = λ _. other; lead = refl })
+
+  -- a step, and then the rest
+  one_spent : (fuel : ℕ) (w : World) → as_foretold bs w ≡ true
+      → ((v : World) → as_foretold bs v ≡ true → SpendsAll fuel v (steps bs rule fuel v))
+      → (p : Phase) → w.phase ≡ p → SpendsAll (suc fuel) w (steps bs rule (suc fuel) w)
+  one_spent fuel w foretold rest running at =
+      let one = never.goes_on rule w at foretold in
+      let on : next bs rule w ≡ one.0 = ap (λ o. unwrap_or o w) one.1 in
+      let n = steps bs rule fuel one.0 in
+      let told = rest one.0 one.2 in
+      let counted : steps bs rule (suc fuel) w ≡ suc n
+      = ap (λ p. by_phase p (suc (steps bs rule fuel (next bs rule w))) 0 0) at ∙ ap (λ u. suc (steps bs rule fuel u)) on in
+      let leads : advanced bs rule n one.0 ≡ advanced bs rule (suc n) w = ap (advanced bs rule n) (sym on) in
+      subst (SpendsAll (suc fuel) w) (sym counted)
+      (record {
+        within = omega (arith, told.within);
+        stopped = λ less. subst (λ (v : World). v.phase ≢ running) leads (told.stopped (omega (arith, less)));
+        lead = (at, one.0, one.1, subst (StepsLead bs rule n one.0) leads told.lead);
+      })
+  one_spent fuel w foretold rest ended at = none_spent (suc fuel) w (stopped_phase (ap (λ p. by_phase p 1 0 0) at))
+  one_spent fuel w foretold rest (tripped trip) at = none_spent (suc fuel) w (stopped_phase (ap (λ p. by_phase p 1 0 0) at))
+
+  spends : (fuel : ℕ) (w : World) → as_foretold bs w ≡ true → SpendsAll fuel w (steps bs rule fuel w)
+  spends zero w foretold = record { within = omega arith; stopped = λ less. absurd (omega (arith, less)); lead = refl }
+  spends (suc fuel) w foretold = one_spent fuel w foretold (spends fuel) w.phase refl
+
+  -- so it is of what a run answers and leaves
+  pub spent : {fuel made : ℕ} {w v : World} → as_foretold bs w ≡ true → made ≡ steps bs rule fuel w → v ≡ advanced bs rule made w → Spends bs rule fuel w made v
+  spent {fuel} {made} {w} {v} foretold counted left =
+      subst (Spends bs rule fuel w made) (sym left) (subst (SpendsAll fuel w) (sym counted) (spends fuel w foretold))

@@ -1,17 +1,18 @@
 -- A step of a machine, from what its instruction comes to.
-use Rattle.std.proofs.Common.{◌≡◌, ℕ, true, List, [], ◌∷◌, length, set, Some, None, Option, sym, ap, ◌∙◌, arith}
+use Rattle.std.proofs.Common.{◌≡◌, ℕ, true, List, [], ◌∷◌, Some, None, Option, sym, ap, ◌∙◌}
 use Rattle.std.specs.Option.{IfNone}
 use Rattle.std.proofs.lemmas.Bool.{cond-true}
 use Rattle.isa.specs.declared.instr.Instr.{Instr}
 use Rattle.host.specs.declared.port.Port.{Port}
-use Rattle.machine.specs.declared.frame.Frame.{Frame}
 use Rattle.machine.specs.declared.machine.Machine.{Machine}
 use Rattle.machine.specs.declared.memory.Memory.{Memory}
+use Rattle.machine.specs.declared.stack.Stack.{Stack}
+use Rattle.machine.specs.declared.machine.State.{State}
 use Rattle.machine.specs.declared.machine.State.TheVariants.{Running, Ended}
-use Rattle.machine.specs.Level.{Level, level_of, onward}
+use Rattle.machine.specs.Level.{Level, onward}
 use Rattle.machine.specs.Nested.{running_routine, waiting}
-use Rattle.machine.specs.View.{phase_of, levels_in, world_of, effect_in, Performed}
-use Rattle.machine.proofs.Frames.{set_same, below_set}
+use Rattle.machine.specs.Parts.{phase_of, levels_in, world_from}
+use Rattle.machine.specs.View.{world_of, effect_in}
 use Rattle.machine.specs.World.{World, goes, ends, world, running, ended, able, after, effect, effect_here, here, step, step_in}
 
 module _ (bs : List ℕ) (rule : List Port → List Port) where
@@ -40,6 +41,12 @@ module _ (bs : List ℕ) (rule : List Port → List Port) (m : Machine) (ports :
       ∙ step_goes bs rule (running_routine m.stack) (waiting m.stack) m.memory.bytes ports x can e
       ∙ (λ i. Some (after (sym running_world i) (running_routine m.stack) (effect_in bs rule x m ports)))
 
+-- the world of a running machine of these parts, whose waiting routines are known
+pub runs_from : {state : State} (stack : Stack) {ls : List Level} → state ≡ Running → waiting stack ≡ ls → (memory : Memory) (ports : List Port) →
+    world_from state stack memory ports ≡ world running (running_routine stack ∷ ls) memory.bytes ports
+runs_from {state} stack run waits memory ports =
+    ap (λ s. world (phase_of s) (levels_in s stack) memory.bytes ports) run ∙ ap (λ ls. world running (running_routine stack ∷ ls) memory.bytes ports) waits
+
 -- one instruction on
 abbrev pub next : Level → Level
 next l = onward l l.registers
@@ -54,45 +61,23 @@ pub none_then : {T P Q : Type 0} (o : Option T) → IfNone o P → (P → Q) →
 none_then (Some x) p f = tt
 none_then None p f = f p
 
-module _ {bs : List ℕ} {rule : List Port → List Port} {m : Machine} {ports : List Port} {n : Machine} {x : Instr} (run : m.state ≡ Running) where
+-- what the machine m leaves, by the parts of the machine that it is then
+module _ (bs : List ℕ) (rule : List Port → List Port) (m : Machine) (ports : List Port) {state : State} (stack : Stack) (kept : Memory) (x : Instr) (run : m.state ≡ Running) where
   -- the run goes on
   pub went : {later : List Port} {y : Instr} {l : Level} {ls : List Level} {memory : List ℕ} → x ≡ y →
-      effect_in bs rule y m ports ≡ goes (l ∷ ls) memory later → running_routine n.stack ≡ l → waiting n.stack ≡ ls → n.memory.bytes ≡ memory → n.state ≡ m.state →
-      Performed bs rule x m ports n later
-  unfolding after world_of
-  went {later} is e t w b s = record {
-    leaves =
-        ap (λ state. world (phase_of state) (levels_in state n.stack) n.memory.bytes later) (s ∙ run)
-        ∙ (λ i. world running (t i ∷ w i) (b i) later)
-        ∙ ap (after (world_of m ports) (running_routine m.stack)) (sym e ∙ ap (λ z. effect_in bs rule z m ports) (sym is));
-  }
+      effect_in bs rule y m ports ≡ goes (l ∷ ls) memory later → running_routine stack ≡ l → waiting stack ≡ ls → kept.bytes ≡ memory → state ≡ m.state →
+      world_from state stack kept later ≡ after (world_of m ports) (running_routine m.stack) (effect_in bs rule x m ports)
+  unfolding after
+  went {later} is e t w b s =
+      ap (λ state. world (phase_of state) (levels_in state stack) kept.bytes later) (s ∙ run)
+      ∙ (λ i. world running (t i ∷ w i) (b i) later)
+      ∙ ap (after (world_of m ports) (running_routine m.stack)) (sym e ∙ ap (λ z. effect_in bs rule z m ports) (sym is))
 
   -- the run has ended
-  pub has_ended : effect_in bs rule x m ports ≡ ends → n.memory.bytes ≡ m.memory.bytes → n.state ≡ Ended → Performed bs rule x m ports n ports
+  pub has_ended : effect_in bs rule x m ports ≡ ends → kept.bytes ≡ m.memory.bytes → state ≡ Ended →
+      world_from state stack kept ports ≡ after (world_of m ports) (running_routine m.stack) (effect_in bs rule x m ports)
   unfolding after world_of
-  has_ended e b s = record {
-    leaves =
-        ap (λ state. world (phase_of state) (levels_in state n.stack) n.memory.bytes ports) s
-        ∙ ap (λ bytes. world ended [] bytes ports) b
-        ∙ ap (after (world_of m ports) (running_routine m.stack)) (sym e);
-  }
-
--- the machine m, with a frame f in the place of the running one
-abbrev pub with_frame : Machine → Frame → Memory → Machine
-with_frame m f memory = record {
-  state = m.state;
-  stack = record { frames = set m.stack.frames m.stack.top.index f; top = m.stack.top };
-  memory = memory;
-}
-
-module _ (m : Machine) (whole : length m.stack.frames ≡ 32) (f : Frame) (memory : Memory) where
-  pub frame_runs : running_routine (with_frame m f memory).stack ≡ level_of f
-  unfolding running_routine
-  frame_runs = set_same m.stack.frames m.stack.top.index f (omega (arith, m.stack.top.nested))
-
-  -- the world of a running machine with that frame
-  pub world_with : m.state ≡ Running → (ports : List Port) → world_of (with_frame m f memory) ports ≡ world running (level_of f ∷ waiting m.stack) memory.bytes ports
-  unfolding waiting
-  world_with run ports =
-      running_world [] (λ ps. ps) (with_frame m f memory) ports run
-      ∙ (λ i. world running (frame_runs i ∷ below_set m.stack.frames m.stack.top.index m.stack.top.index f (omega arith) i) memory.bytes ports)
+  has_ended e b s =
+      ap (λ state. world (phase_of state) (levels_in state stack) kept.bytes ports) s
+      ∙ ap (λ bytes. world ended [] bytes ports) b
+      ∙ ap (after (world_of m ports) (running_routine m.stack)) (sym e)

@@ -1,5 +1,5 @@
 -- How many steps fuel makes, and where they lead.
-use Rattle.std.specs.Prelude.{◌≡◌, ℕ, zero, suc, ◌+◌, List, unwrap_or}
+use Rattle.std.specs.Prelude.{◌≡◌, ◌≢◌, ℕ, zero, suc, ◌+◌, ◌<◌, ◌≤◌, List, Some, unwrap_or}
 use Rattle.host.specs.declared.port.Port.{Port}
 use Rattle.machine.specs.World.{Phase, running, ended, tripped, World, step}
 
@@ -27,6 +27,18 @@ steps bs rule (suc fuel) w = by_phase w.phase (suc (steps bs rule fuel (next bs 
 abbrev pub advanced : List ℕ → TickRule → ℕ → World → World
 advanced bs rule zero w = w
 advanced bs rule (suc n) w = advanced bs rule n (next bs rule w)
+
+-- Some steps lead from the world w to the world v: before each of them the machine runs, and each is a step by the rules.
+abbrev pub StepsLead : List ℕ → TickRule → ℕ → World → World → Type 0
+StepsLead bs rule zero w v = v ≡ w
+StepsLead bs rule (suc n) w v = (w.phase ≡ running) × (u : World) × (step bs rule w ≡ Some u) × StepsLead bs rule n u v
+
+-- Fuel was spent: no more steps were made than there was fuel, and fewer only if the machine does not run any more; and they are
+-- steps by the rules, which lead from the world w to the world v.
+pub record Spends (bs : List ℕ) (rule : TickRule) (fuel : ℕ) (w : World) (made : ℕ) (v : World) : Type 0 where
+  pub within : made ≤ fuel
+  pub stopped : made < fuel → v.phase ≢ running
+  pub lead : StepsLead bs rule made w v
 
 -- n steps lead from the world w to the world v, and the machine runs before each: so of any fuel the first n make these steps,
 -- and what is left makes those that it makes from v on

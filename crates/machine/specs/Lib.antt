@@ -3,6 +3,7 @@ pub mod Memory
 pub mod Nested
 pub mod World
 pub mod Fuel
+pub mod Parts
 pub mod View
 pub mod Foretold
 pub mod Within

@@ -1,33 +1,22 @@
 -- A machine as the rules see it.
-use Rattle.std.specs.Prelude.{◌≡◌, ℕ, true, Some, List, [], ◌∷◌}
+use Rattle.std.specs.Prelude.{◌≡◌, ℕ, true, Some, List}
 use Rattle.isa.specs.declared.instr.Instr.{Instr}
 use Rattle.host.specs.declared.port.Port.{Port}
-use Rattle.faults.specs.Causes.{trip_of}
 use Rattle.module.specs.declared.body.Body.{Body}
-use Rattle.module.specs.Told.{bytes_behind, routine_of}
+use Rattle.module.specs.Told.{bytes_of, bytes_behind, routine_of}
 use Rattle.machine.specs.declared.machine.Machine.{Machine}
-use Rattle.machine.specs.declared.machine.State.{State}
-use Rattle.machine.specs.declared.machine.State.TheVariants.{Running, Ended, Tripped}
-use Rattle.machine.specs.declared.stack.Stack.{Stack}
-use Rattle.machine.specs.Level.{Level}
+use Rattle.machine.specs.declared.machine.State.TheVariants.{Running}
 use Rattle.machine.specs.Nested.{running_routine, waiting}
-use Rattle.machine.specs.World.{Phase, running, ended, tripped, Move, World, world, after, effect, here, able}
+use Rattle.machine.specs.Parts.{world_from}
+use Rattle.machine.specs.World.{Move, World, after, effect, here, able}
 
--- the phase of a machine in this state
-abbrev pub phase_of : State → Phase
-phase_of Running = running
-phase_of Ended = ended
-phase_of (Tripped cause place) = tripped (trip_of cause place)
-
--- the nested routines of a machine in this state, the running one first; after the end none is left
-abbrev pub levels_in : State → Stack → List Level
-levels_in Running stack = running_routine stack ∷ waiting stack
-levels_in Ended stack = []
-levels_in (Tripped cause place) stack = running_routine stack ∷ waiting stack
+-- the bytes of the module on which it runs
+abbrev pub module_of : Machine → List ℕ
+module_of m = bytes_of m.checked.opened
 
 -- the world of a machine, with the ports of its host
 unfoldable pub world_of : Machine → List Port → World
-world_of m ports = world (phase_of m.state) (levels_in m.state m.stack) m.memory.bytes ports
+world_of m ports = world_from m.state m.stack m.memory ports
 
 -- a running machine that stands at the instruction x of a module, which has a rule there
 pub record Stands (bs : List ℕ) (x : Instr) (m : Machine) : Type 0 where
@@ -39,6 +28,7 @@ pub record Stands (bs : List ℕ) (x : Instr) (m : Machine) : Type 0 where
 pub record RunsBody (bs : List ℕ) (m : Machine) (t : Body) : Type 0 where
   pub running : m.state ≡ Running
   pub bytes : bytes_behind t ≡ bs
+  pub upon : module_of m ≡ bs
   pub routine : routine_of t ≡ (running_routine m.stack).routine
 
 -- what an instruction x of a module comes to in the machine m, over these ports

@@ -34,7 +34,7 @@ impl Frame {
     }
 }
 
-impl Machine {
+impl Machine<'_> {
     /// The running routine. After the end there is none.
     pub fn running(&self) -> Option<&Frame>
         ensures { (ports : List Port) → option_map (λ (frame : Bor AFrame). level_of frame.now) result ≡ running_in (world_of self.now ports).levels }

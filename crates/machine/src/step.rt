@@ -1,15 +1,14 @@
 // The steps that lead from one routine to another, or stop the run.
-ghost use Rattle.std.specs.Prelude.{◌≡◌, ◌≢◌, ◌-◌, ◌<◌, ◌≤◌, true, List, [], Some, OnOk, OnErr, IfOk, IfErr, IfSome, ◌==◌};
+ghost use Rattle.std.specs.Prelude.{◌≡◌, ◌≢◌, ◌-◌, ◌<◌, ◌≤◌, List, [], Some, OnOk, OnErr, IfOk, IfErr, IfSome, ◌==◌};
 ghost use Rattle.std.specs.Option.{IfNone};
 ghost use Rattle.host.specs.declared.port.Port.{Port};
 ghost use Rattle.faults.specs.Causes.{cause_of};
 ghost use Rattle.isa.specs.declared.instr.Instr.TheVariants.{Call, Ret};
-ghost use Rattle.module.specs.Told.{bytes_of, bytes_behind};
+ghost use Rattle.module.specs.Told.{bytes_behind};
 ghost use Rattle.machine.specs.declared.machine.State.TheVariants.{Running, Ended};
-ghost use Rattle.machine.specs.Foretold.{as_foretold};
-ghost use Rattle.machine.specs.Fuel.{Goes, steps, advanced};
+ghost use Rattle.machine.specs.Fuel.{Goes, Spends, steps, advanced};
 ghost use Rattle.machine.specs.Nested.{running_routine};
-ghost use Rattle.machine.specs.View.{world_of, Stands, RunsBody, effect_in, PerformedOverAnyHost};
+ghost use Rattle.machine.specs.View.{module_of, world_of, Stands, RunsBody, effect_in, PerformedOverAnyHost};
 ghost use Rattle.machine.specs.Within.{Stops, StandsAtStop, StopsWith};
 ghost use Rattle.machine.specs.World.{after, trips, running, step};
 
@@ -20,16 +19,17 @@ use faults::cause::Cause;
 use host::Host;
 use isa::instr::Instr;
 use module::body::Body;
-use module::checked::Checked;
+use module::site::{Sibling, Site};
 use refusal::Place;
 
-impl Machine {
+impl<'a> Machine<'a> {
     // Trips where it stands.
     fn trip(&mut self, cause: Cause)
         requires running { self.old.state ≡ Running }
         requires routine { (running_routine self.old.stack).routine < 65536 }
         requires instruction { (running_routine self.old.stack).pc < 65536 }
-        ensures { (ports : List Port) → world_of self.new ports ≡ after (world_of self.old ports) (running_routine self.old.stack) (trips (cause_of cause)) }
+        ensures trips { (ports : List Port) → world_of self.new ports ≡ after (world_of self.old ports) (running_routine self.old.stack) (trips (cause_of cause)) }
+        ensures bytes { module_of self.new ≡ module_of self.old }
     {
         let running = self.stack.running();
         let place = Place {
@@ -40,8 +40,9 @@ impl Machine {
     }
 
     // Begins routine n, with arguments from register b on, and answers its body.
-    fn call<'a>(&mut self, code: Body<'a>, a: u8, b: u8, n: u32) -> Result<Body<'a>, Cause>
-        requires { Stands (bytes_behind code) (Call a b n) self.old }
+    fn call(&mut self, code: Body<'a>, a: u8, b: u8, n: u32) -> Result<Body<'a>, Cause>
+        requires stands { Stands (bytes_behind code) (Call a b n) self.old }
+        requires runs { RunsBody (bytes_behind code) self.old code }
         ensures done { OnOk result (PerformedOverAnyHost (bytes_behind code.entry) (Call a b n) self.old self.new) }
         ensures runs { IfOk result (RunsBody (bytes_behind code.entry) self.new) }
         ensures tripped { IfErr result (λ cause. (rule : List Port → List Port) (ports : List Port) → effect_in (bytes_behind code.entry) rule (Call a b n) self.old ports ≡ trips (cause_of cause)) }
@@ -50,7 +51,11 @@ impl Machine {
         if self.stack.callers() == MOST_NESTED - 1 {
             return Err(Cause::TooDeep);
         }
-        let callee = code.of(n as usize);
+        let named = Sibling {
+            body: code,
+            routine: n as usize,
+        };
+        let callee = named.body();
         self.stack
             .enter(n as usize, b, callee.signature().arguments);
         Ok(callee)
@@ -64,20 +69,29 @@ impl Machine {
     }
 
     // Returns the results from register a on and answers the body of the routine that goes on, or ends the run.
-    fn give_back<'a>(&mut self, code: Body<'a>, a: u8) -> Option<Body<'a>>
+    fn give_back(&mut self, code: Body<'a>, a: u8) -> Option<Body<'a>>
         requires stands { Stands (bytes_behind code) (Ret a) self.old }
         requires runs { RunsBody (bytes_behind code) self.old code }
         ensures done { PerformedOverAnyHost (bytes_behind code.entry) (Ret a) self.old self.new }
         ensures runs { IfSome result (RunsBody (bytes_behind code.entry) self.new) }
         ensures ended { IfNone result (self.new.state ≡ Ended) }
+        ensures bytes { module_of self.new ≡ module_of self.old }
     {
         if self.ends_run() {
             self.state = State::Ended;
             return None;
         }
         let caller = self.stack.caller();
-        let below = code.of(caller.routine);
-        let Instr::Call { a: into, .. } = below.instruction(caller.pc) else {
+        let waiting = Sibling {
+            body: code,
+            routine: caller.routine,
+        };
+        let below = waiting.body();
+        let call = Site {
+            body: below,
+            index: caller.pc,
+        };
+        let Instr::Call { a: into, .. } = call.instruction() else {
             unreachable()
         };
         self.stack.leave(a, into, code.signature().results);
@@ -85,13 +99,13 @@ impl Machine {
     }
 
     // The step at which a routine stops: it calls, returns or trips. It answers the body of the routine that runs then, if one does.
-    fn pass<'a>(&mut self, code: Body<'a>, stop: Stop) -> Option<Body<'a>>
+    fn pass(&mut self, code: Body<'a>, stop: Stop) -> Option<Body<'a>>
         requires runs { RunsBody (bytes_behind code) self.old code }
-        requires foretold { as_foretold (bytes_behind code) (world_of self.old []) ≡ true }
         requires stands { StandsAtStop (bytes_behind code) (running_routine self.old.stack) stop }
         ensures step { (rule : List Port → List Port) (ports : List Port) → Stops (bytes_behind code.entry) rule (running_routine self.old.stack) self.old.memory.bytes ports stop → step (bytes_behind code.entry) rule (world_of self.old ports) ≡ Some (world_of self.new ports) }
         ensures runs { IfSome result (RunsBody (bytes_behind code.entry) self.new) }
         ensures stopped { IfNone result ((world_of self.new []).phase ≢ running) }
+        ensures bytes { module_of self.new ≡ module_of self.old }
     {
         match stop {
             Stop::Call { a, b, n } => match self.call(code, a, b, n) {
@@ -112,34 +126,25 @@ impl Machine {
     // The steps that the running routine makes by itself. It answers how much fuel is left, and why it made no more if some is.
     fn within<H: Host>(&mut self, code: Body<'_>, host: &mut H, fuel: u32) -> (u32, Option<Stop>)
         requires runs { RunsBody (bytes_behind code) self.old code }
-        requires foretold { as_foretold (bytes_behind code) (world_of self.old []) ≡ true }
         ensures few { result.0 ≤ fuel }
         ensures goes { Goes (bytes_behind code.entry) (H.rule (H.base host.old)) (fuel - result.0) (world_of self.old (H.ports host.old)) (world_of self.new (H.ports host.new)) }
         ensures runs { RunsBody (bytes_behind code.entry) self.new code.entry }
-        ensures foretold { as_foretold (bytes_behind code.entry) (world_of self.new []) ≡ true }
         ensures stop { StopsWith (bytes_behind code.entry) (H.rule (H.base host.old)) result.0 (running_routine self.new.stack) self.new.memory.bytes (H.ports host.new) result.1 }
         ensures base { H.base host.new ≡ H.base host.old }
     {
-        let running = &mut self.stack.frames[self.stack.top.index];
-        running.run(code, &mut self.memory, host, fuel)
+        self.stack.within(code, &mut self.memory, host, fuel)
     }
 
     // Steps until the fuel is used, or the running routine calls, returns or trips; this step is made, too. It answers how much fuel
     // is left, and the body of the routine that runs then, if one does.
-    fn turn<'a, H: Host>(
-        &mut self,
-        code: Body<'a>,
-        host: &mut H,
-        fuel: u32,
-    ) -> (u32, Option<Body<'a>>)
+    fn turn<H: Host>(&mut self, code: Body<'a>, host: &mut H, fuel: u32) -> (u32, Option<Body<'a>>)
         requires fuel { 0 < fuel }
         requires runs { RunsBody (bytes_behind code) self.old code }
-        requires foretold { as_foretold (bytes_behind code) (world_of self.old []) ≡ true }
         ensures less { result.0 < fuel }
         ensures goes { Goes (bytes_behind code.entry) (H.rule (H.base host.old)) (fuel - result.0) (world_of self.old (H.ports host.old)) (world_of self.new (H.ports host.new)) }
         ensures runs { IfSome result.1 (RunsBody (bytes_behind code.entry) self.new) }
         ensures stopped { IfNone result.1 ((world_of self.new []).phase ≢ running) }
-        ensures foretold { as_foretold (bytes_behind code.entry) (world_of self.new []) ≡ true }
+        ensures bytes { module_of self.new ≡ module_of self.old }
         ensures base { H.base host.new ≡ H.base host.old }
     {
         let (left, stop) = self.within(code, host, fuel);
@@ -150,20 +155,19 @@ impl Machine {
         (left - 1, next)
     }
 
-    /// Steps until the fuel is used, or the state leaves running, and answers how many steps it made. The machine is as the check
-    /// foretold, and stays so.
+    /// Steps until the fuel is used, or the state leaves running, and answers how many steps it made.
     // The body of the routine that runs goes from turn to turn, so that no step looks for it by its number.
-    pub fn run<H: Host>(&mut self, checked: &Checked, host: &mut H, fuel: u32) -> u32
-        requires foretold { as_foretold (bytes_of checked.now.opened) (world_of self.old []) ≡ true }
-        ensures made { result ≡ steps (bytes_of checked.now.opened) (H.rule (H.base host.old)) fuel (world_of self.old (H.ports host.old)) }
-        ensures world { world_of self.new (H.ports host.new) ≡ advanced (bytes_of checked.now.opened) (H.rule (H.base host.old)) result (world_of self.old (H.ports host.old)) }
-        ensures foretold { as_foretold (bytes_of checked.now.opened) (world_of self.new []) ≡ true }
+    pub fn run<H: Host>(&mut self, host: &mut H, fuel: u32) -> u32
+        ensures made { result ≡ steps (module_of self.old) (H.rule (H.base host.old)) fuel (world_of self.old (H.ports host.old)) }
+        ensures world { world_of self.new (H.ports host.new) ≡ advanced (module_of self.old) (H.rule (H.base host.old)) result (world_of self.old (H.ports host.old)) }
+        ensures spends { Spends (module_of self.old) (H.rule (H.base host.old)) fuel (world_of self.old (H.ports host.old)) result (world_of self.new (H.ports host.new)) }
+        ensures bytes { module_of self.new ≡ module_of self.old }
         ensures base { H.base host.new ≡ H.base host.old }
     {
         let State::Running = self.state else {
             return 0;
         };
-        let mut code = checked.body(self.stack.running().routine).unwrap();
+        let mut code = self.checked.body(self.stack.running().routine).unwrap();
         let mut left = fuel;
         while left > 0 {
             let (rest, next) = self.turn(code, host, left);

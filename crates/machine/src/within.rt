@@ -5,14 +5,17 @@ ghost use Rattle.machine.specs.declared.within.Stop.TheVariants.{Trip};
 ghost use Rattle.module.specs.Told.{bytes_behind, routine_of};
 ghost use Rattle.machine.specs.Level.{level_of, value, jumped};
 ghost use Rattle.machine.specs.Foretold.{AsForetold};
+ghost use Rattle.machine.specs.Nested.{running_routine, waiting};
 ghost use Rattle.machine.specs.Within.{Moves, Stops, MakesOwn, StopsWith};
 
 use crate::frame::{Frame, Register};
 use crate::memory::Memory;
+use crate::stack::Stack;
 use faults::cause::Cause;
 use host::Host;
 use isa::instr::Instr;
 use module::body::Body;
+use module::site::Site;
 use words::calculation::calculate;
 use words::division::divide;
 use words::test::passes;
@@ -68,7 +71,11 @@ impl Frame {
         ensures base { H.base host.new ≡ H.base host.old }
     {
         let next = pc + 1;
-        match code.instruction(pc) {
+        let site = Site {
+            body: code,
+            index: pc,
+        };
+        match site.instruction() {
             Instr::New => {
                 self.push(Register::Variable(0));
                 Some(next)
@@ -195,5 +202,27 @@ impl Frame {
         }
         self.pc = pc;
         (0, None)
+    }
+}
+
+impl Stack {
+    // The steps that the running routine makes by itself, with those that wait left as they are.
+    pub(crate) fn within<H: Host>(
+        &mut self,
+        code: Body<'_>,
+        memory: &mut Memory,
+        host: &mut H,
+        fuel: u32,
+    ) -> (u32, Option<Stop>)
+        requires routine { routine_of code ≡ (running_routine self.old).routine }
+        requires foretold { AsForetold (bytes_behind code) (running_routine self.old) }
+        ensures few { result.0 ≤ fuel }
+        ensures made { MakesOwn (bytes_behind code.entry) (H.rule (H.base host.old)) (fuel - result.0) (running_routine self.old) memory.old.bytes (H.ports host.old) (running_routine self.new) memory.new.bytes (H.ports host.new) }
+        ensures waiting { waiting self.new ≡ waiting self.old }
+        ensures stop { StopsWith (bytes_behind code.entry) (H.rule (H.base host.old)) result.0 (running_routine self.new) memory.new.bytes (H.ports host.new) result.1 }
+        ensures base { H.base host.new ≡ H.base host.old }
+    {
+        let running = &mut self.frames[self.top.index];
+        running.run(code, memory, host, fuel)
     }
 }

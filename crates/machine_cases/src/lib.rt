@@ -5,8 +5,6 @@
 #[cfg(test)]
 mod faults_tests;
 #[cfg(test)]
-mod rig;
-#[cfg(test)]
 mod step_tests;
 #[cfg(test)]
 mod words_tests;

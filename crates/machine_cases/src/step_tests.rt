@@ -1,8 +1,7 @@
-use crate::rig::Rig;
 use host::Host;
 use host::axis::AxisHost;
 use isa::row::Row;
-use machine::machine::State;
+use machine::machine::{Machine, State};
 use module::checked::Checked;
 use module::entry::Entry;
 use module::open::open;
@@ -44,10 +43,9 @@ type Stop = (u32, Option<Trip>, Option<u32>, Option<u8>);
 
 // Steps a module until it stops.
 fn stop(checked: Checked<'_>, axis: &mut AxisHost) -> Option<Stop> {
-    let mut rig = Rig::begin(checked);
+    let mut machine = Machine::begin(checked);
     for steps in 0..1_000_000 {
-        if !rig.advance(axis) {
-            let machine = &rig.machine;
+        if machine.run(axis, 1) == 0 {
             return Some((
                 steps,
                 trip_of(machine.state),
@@ -61,7 +59,7 @@ fn stop(checked: Checked<'_>, axis: &mut AxisHost) -> Option<Stop> {
 
 // Over a sheet that is long enough for every module of the tests.
 fn checked(bytes: &[u8]) -> Result<Checked<'_>, Refusal> {
-    open(bytes)?.into_checked(&mut [ShapeRow::BLANK; 64])
+    Ok(open(bytes)?.check(&mut [ShapeRow::BLANK; 64])?)
 }
 
 // Wants these values at ports of the axis.

@@ -9,6 +9,7 @@ use Rattle.module.specs.declared.body.Body.{Body}
 use Rattle.module.specs.declared.contents.RowAt.{RowAt}
 use Rattle.module.specs.declared.opened.Counts.{Counts}
 use Rattle.module.specs.declared.opened.Opened.{Opened}
+use Rattle.module.specs.declared.refused.Refused.{Refused}
 use Rattle.module.specs.declared.routine.Routine.{Routine}
 
 -- the bytes that it shows
@@ -33,6 +34,10 @@ row_of t = row_from t.bytes.now t.at
 -- an answer without what it gives, with a refusal by its four numbers
 abbrev pub verdict_of : {X : Type 0} → Result X Refusal → Result (Unit {0}) Values
 verdict_of answer = result_map_both (λ _. tt) values_of answer
+
+-- the same of an answer of check
+abbrev pub verdict_on : {X M : Type 0} → Result X (Refused M) → Result (Unit {0}) Values
+verdict_on answer = result_map_both (λ _. tt) (λ r. values_of r.refusal) answer
 
 -- an answer of open, with the module by its counts and a refusal by its four numbers
 abbrev pub by_counts : Result Opened Refusal → Result Counts Values

@@ -5,9 +5,9 @@ ghost use Rattle.module.specs.Layout.{routines, count, offset, signature};
 ghost use Rattle.module.specs.Places.{instr_at};
 
 use crate::checked::Checked;
-use crate::contents::{RowAt, entry_of, offset_of};
+use crate::contents::{entry_of, offset_of};
+use crate::site::Site;
 use isa::access::Signature;
-use isa::decode::instruction;
 use isa::instr::Instr;
 
 /// The body of a routine of a checked module: the module's bytes, which of its routines it is, and where its instructions begin.
@@ -15,7 +15,7 @@ use isa::instr::Instr;
 pub struct Body<'a> {
     pub(crate) bytes: &'a [u8],
     pub(crate) routine: usize,
-    at: usize,
+    pub(crate) at: usize,
     ghost keeps: { accepted bytes.now ≡ true },
     ghost there: { routine < routines bytes.now },
     ghost placed: { at ≡ offset bytes.now routine },
@@ -40,30 +40,11 @@ impl<'a> Checked<'a> {
     }
 }
 
-impl<'a> Body<'a> {
-    ghost use Rattle.module.specs.Told.{bytes_behind, routine_of};
-
-    /// The body of a routine of the same module. That there is such a routine is not tested: the check tested it for each CALL.
-    #[inline(always)]
-    pub fn of(self, routine: usize) -> Body<'a>
-        requires { routine < routines (bytes_behind self) }
-        ensures bytes { bytes_behind result ≡ bytes_behind self.entry }
-        ensures routine { routine_of result ≡ routine }
-    {
-        let bytes = self.bytes;
-        Body {
-            bytes,
-            routine,
-            at: offset_of(bytes, routine),
-        }
-    }
-}
-
 impl Body<'_> {
     ghost use Rattle.module.specs.Told.{bytes_behind, routine_of};
 
     // How many instructions it has.
-    pub(crate) fn count(self) -> usize
+    fn count(self) -> usize
         ensures { result ≡ count (bytes_behind self.entry) (routine_of self.entry) }
     {
         usize::from(entry_of(self.bytes, self.routine).count)
@@ -76,12 +57,17 @@ impl Body<'_> {
         entry_of(self.bytes, self.routine).signature()
     }
 
-    /// An instruction that there is. No test is made: the check made them.
-    #[inline(always)]
-    pub fn instruction(self, i: usize) -> Instr
-        requires { i < count (bytes_behind self) (routine_of self) }
-        ensures { instr_at (bytes_behind self.entry) (routine_of self.entry) i ≡ Some result }
+    /// An instruction, if there is one at this place.
+    pub fn instruction(self, i: usize) -> Option<Instr>
+        ensures { result ≡ instr_at (bytes_behind self.entry) (routine_of self.entry) i }
     {
-        instruction(&RowAt::new(self.bytes, self.at + 8 * i))
+        if i >= self.count() {
+            return None;
+        }
+        let site = Site {
+            body: self,
+            index: i,
+        };
+        Some(site.instruction())
     }
 }

@@ -1,18 +1,19 @@
-ghost use Rattle.std.specs.Prelude.{◌≡◌, true, length, OnOk};
+ghost use Rattle.std.specs.Prelude.{◌≡◌, length, MatchResult};
 ghost use Rattle.refusal.specs.Values.{told};
-ghost use Rattle.module.specs.Accepted.{accepted};
 ghost use Rattle.module.specs.Layout.{routines, total};
 ghost use Rattle.module.specs.Rules.{rules};
 ghost use Rattle.module.specs.Shape.{rows_before};
-ghost use Rattle.module.specs.Told.{bytes_of};
+ghost use Rattle.module.specs.Told.{bytes_of, verdict_on};
 ghost use Rattle.module.specs.Verdict.{tried, checking, first_rows, sheet_after};
 
+use crate::checked::Checked;
 use crate::opened::Opened;
+use crate::refused::Refused;
 use crate::rule::Rule;
 use crate::shape::ShapeRow;
 use refusal::Refusal;
 
-impl Opened<'_> {
+impl<'a> Opened<'a> {
     // Tries the rules in turn over filled rows.
     fn try_rules(&self, rows: &[ShapeRow]) -> Result<(), Refusal>
         requires { rows.now ≡ rows_before (bytes_of self.now) (routines (bytes_of self.now)) }
@@ -40,18 +41,32 @@ impl Opened<'_> {
         verdict
     }
 
+    // Gives the module back with its refusal.
+    fn refused(self, refusal: Refusal) -> Refused<Opened<'a>>
+        ensures module { result.module ≡ self.entry }
+        ensures refusal { result.refusal ≡ refusal }
+    {
+        Refused {
+            module: self,
+            refusal,
+        }
+    }
+
     /// Checks the module. An acceptance fills the first rows of the sheet, one for each instruction; a broken rule clears
-    /// them; the rows past them stay. Too short a sheet is refused and stays as it is.
-    pub fn check(&self, sheet: &mut [ShapeRow]) -> Result<(), Refusal>
-        ensures verdict { told result ≡ checking (bytes_of self.now) (length sheet.old) }
-        ensures sheet { sheet.new ≡ sheet_after (bytes_of self.now) sheet.old }
-        ensures accepts { OnOk result (accepted (bytes_of self.now) ≡ true) }
+    /// them; the rows past them stay. Too short a sheet is refused and stays as it is. A refusal gives the module back.
+    pub fn check(self, sheet: &mut [ShapeRow]) -> Result<Checked<'a>, Refused<Opened<'a>>>
+        ensures verdict { verdict_on result ≡ checking (bytes_of self.entry) (length sheet.old) }
+        ensures sheet { sheet.new ≡ sheet_after (bytes_of self.entry) sheet.old }
+        ensures moves { MatchResult result (λ m. m.opened ≡ self.entry) (λ r. r.module ≡ self.entry) }
     {
         // A test and a range: of the sheet after `get_mut(..total)` a proof knows only the length.
         let total = self.counts.total;
         if sheet.len() < total {
-            return Err(Refusal::Sheet);
+            return Err(self.refused(Refusal::Sheet));
         }
-        self.judge(&mut sheet[0..total])
+        match self.judge(&mut sheet[0..total]) {
+            Ok(()) => Ok(Checked { opened: self }),
+            Err(refusal) => Err(self.refused(refusal)),
+        }
     }
 }

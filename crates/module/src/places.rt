@@ -26,11 +26,7 @@ impl Checked<'_> {
     pub fn instruction(&self, routine: usize, instruction: usize) -> Option<Instr>
         ensures { result ≡ instr_at (bytes_of self.now.opened) routine instruction }
     {
-        let body = self.body(routine)?;
-        if instruction >= body.count() {
-            return None;
-        }
-        Some(body.instruction(instruction))
+        self.body(routine)?.instruction(instruction)
     }
 
     /// What a routine takes and gives, if there is such a routine.

@@ -8,11 +8,13 @@ use host::Host;
 use host::axis::AxisHost;
 use isa::row::Row;
 use machine::machine::State;
+use module::checked::Checked;
 use module::entry::Entry;
 use module::limits;
 use module::open::open;
 use module::shape::ShapeRow;
 use packing::round::repack;
+use refusal::Refusal;
 use std::alloc::Global;
 use std::time::Clock;
 
@@ -34,8 +36,13 @@ pub(crate) fn measure(
     round.print(rt, name, each, unit)
 }
 
+// The checked module, if it is accepted.
+fn checked<'a>(bytes: &'a [u8], sheet: &mut [ShapeRow]) -> Result<Checked<'a>, Refusal> {
+    Ok(open(bytes)?.check(sheet)?)
+}
+
 fn grants(rt: &impl Clock, bytes: &[u8], sheet: &mut [ShapeRow]) -> anyhow::Result<Round> {
-    let mut drive = Drive::start(open(bytes)?.into_checked(sheet)?);
+    let mut drive = Drive::start(checked(bytes, sheet)?);
     let mut axis = AxisHost::new();
     best_round(rt, || grant(&mut drive, &mut axis))
 }
@@ -52,7 +59,7 @@ fn grant<H: Host>(drive: &mut Drive<'_>, host: &mut H) -> anyhow::Result<()> {
 
 fn checks(rt: &impl Clock, bytes: &[u8], sheet: &mut [ShapeRow]) -> anyhow::Result<Round> {
     best_round(rt, || {
-        open(bytes)?.check(sheet)?;
+        checked(bytes, sheet)?;
         Ok(())
     })
 }
@@ -65,10 +72,10 @@ fn repacks(
 ) -> anyhow::Result<Round> {
     let mut rows = vec![in heap; Row::default(); limits::INSTRUCTIONS]?;
     let mut output = vec![in heap; 0; limits::deciding_length()]?;
-    let checked = open(bytes)?.into_checked(sheet)?;
+    let module = checked(bytes, sheet)?;
     best_round(rt, || {
         repack(
-            &checked,
+            &module,
             &mut [Entry::default()],
             rows.as_mut_slice(),
             output.as_mut_slice(),

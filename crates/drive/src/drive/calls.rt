@@ -1,5 +1,5 @@
 // The calls that may change a drive.
-ghost use Rattle.std.specs.Prelude.{◌≡◌, List, Ok};
+ghost use Rattle.std.specs.Prelude.{◌≡◌, List, Ok, IfOk};
 ghost use Rattle.host.specs.declared.port.Port.{Port};
 ghost use Rattle.module.specs.Told.{bytes_of};
 ghost use Rattle.machine.specs.declared.machine.State.TheVariants.{Running};
@@ -8,7 +8,7 @@ ghost use Rattle.machine.specs.Fuel.{TickRule};
 ghost use Rattle.drive.specs.declared.call.Call.TheVariants.{Grant, Restart, PowerCycle};
 ghost use Rattle.drive.specs.Calls.{is_fuel};
 ghost use Rattle.drive.specs.Law.{New};
-ghost use Rattle.drive.specs.View.{module_of, world_in, faults_in, by_values, Called};
+ghost use Rattle.drive.specs.View.{module_of, world_in, faults_in, by_values, Called, Granted};
 
 use crate::call::{Answer, Call, MOST_FUEL};
 use crate::drive::Drive;
@@ -32,9 +32,8 @@ impl<'a> Drive<'a> {
         ensures { New (bytes_of checked.entry.opened) result }
     {
         Drive {
-            machine: Machine::begin(&checked),
+            machine: Machine::begin(checked),
             faults: FaultList::new(),
-            checked,
         }
     }
 
@@ -45,7 +44,7 @@ impl<'a> Drive<'a> {
         ensures faults { faults_in self.new ≡ faults_in self.old }
         ensures bytes { module_of self.new ≡ module_of self.old }
     {
-        self.machine.begin_again(&self.checked);
+        self.machine.begin_again();
         (0, State::Running)
     }
 
@@ -70,6 +69,7 @@ impl<'a> Drive<'a> {
     /// Steps until the fuel, 1 to 10,000, is used, or the drive stops running.
     pub fn grant<H: Host>(&mut self, host: &mut H, fuel: u32) -> Answer
         ensures called { Called (H.rule (H.base host.old)) (Grant fuel) self.old (H.ports host.old) (by_values result) self.new (H.ports host.new) }
+        ensures granted { IfOk (by_values result) (λ said. Granted (H.rule (H.base host.old)) fuel self.old (H.ports host.old) said self.new (H.ports host.new)) }
         ensures base { H.base host.new ≡ H.base host.old }
     {
         self.call(host, Call::Grant { fuel })

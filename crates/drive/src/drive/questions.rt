@@ -1,11 +1,12 @@
 // What a drive is asked. A question changes nothing: the drive is not lent for writing.
-ghost use Rattle.std.specs.Prelude.{◌≡◌, List, slice_get};
+ghost use Rattle.std.specs.Prelude.{◌≡◌, ◌≤◌, List, length, slice_get};
 ghost use Rattle.std.specs.Result.{result_map_both};
 ghost use Rattle.host.specs.declared.port.Port.{Port};
 ghost use Rattle.refusal.specs.Values.{values_of, told};
 ghost use Rattle.faults.specs.Faults.{values_of as fault_values};
+ghost use Rattle.faults.specs.Lists.{most_faults};
 ghost use Rattle.machine.specs.Shown.{register_at, byte_at};
-ghost use Rattle.machine.specs.View.{phase_of};
+ghost use Rattle.machine.specs.Parts.{phase_of};
 ghost use Rattle.drive.specs.Questions.{asked, place_in, depth_in};
 ghost use Rattle.drive.specs.View.{world_in, faults_in};
 
@@ -53,6 +54,14 @@ impl Drive<'_> {
         ensures { (ports : List Port) → told result ≡ asked (byte_at (world_in self.now ports).memory i) }
     {
         self.machine.byte(i).ok_or(Refusal::Absent)
+    }
+
+    /// How many faults there are.
+    pub fn fault_count(&self) -> usize
+        ensures count { result ≡ length (faults_in self.now) }
+        ensures few { result ≤ most_faults }
+    {
+        self.faults.len()
     }
 
     /// Fault i, the oldest at 0.

@@ -2,7 +2,7 @@
 ghost use Rattle.std.specs.Prelude.{◌≡◌};
 ghost use Rattle.machine.specs.declared.machine.State.TheVariants.{Running};
 ghost use Rattle.machine.specs.Fuel.{steps, advanced};
-ghost use Rattle.machine.specs.View.{phase_of};
+ghost use Rattle.machine.specs.Parts.{phase_of};
 ghost use Rattle.drive.specs.Calls.{trips_of};
 ghost use Rattle.drive.specs.View.{module_of, world_in, faults_in, noted_all};
 
@@ -32,7 +32,7 @@ impl Drive<'_> {
         ensures bytes { module_of self.new ≡ module_of self.old }
         ensures base { H.base host.new ≡ H.base host.old }
     {
-        let made = self.machine.run(&self.checked, host, fuel);
+        let made = self.machine.run(host, fuel);
         self.note_trip();
         (made, self.machine.state)
     }

@@ -57,4 +57,4 @@ returns g c =
       subst (λ (cs : List Call). Leads rule cs (map said_of items) new first drive ports) all
           (subst (λ (said : List Said). Leads rule (take i calls) said new first drive ports) filled inv.leads),
     ) in
-    record { ran = ran; law = law_holds bs rule first calls (map said_of items) drive ports ran; calls = inv.calls; base = inv.base }
+    record { ran = ran; law = law_holds bs rule first calls (map said_of items) drive ports ran; every_run = law_holds; calls = inv.calls; base = inv.base }

@@ -1,5 +1,5 @@
 use Rattle.std.proofs.Common.{sym, ap, ◌∙◌}
-use Rattle.machine.specs.View.{phase_of}
+use Rattle.machine.specs.Parts.{phase_of}
 use Rattle.drive.specs.Calls.{trips_of}
 use Rattle.drive.specs.View.{faults_in, noted_all}
 use Rattle.drive.proofs.Stepping.{no_trip}

@@ -1,6 +1,7 @@
 use Rattle.std.proofs.Common.{sym, ap, ◌∙◌}
 use Rattle.machine.specs.declared.machine.Machine.{Machine}
-use Rattle.machine.specs.View.{phase_of, world_of}
+use Rattle.machine.specs.Parts.{phase_of}
+use Rattle.machine.specs.View.{world_of}
 use Rattle.drive.specs.Calls.{trips_of}
 use Rattle.drive.specs.View.{faults_in, noted_all}
 use Rattle.drive.proofs.drive.Drive.spend.Goals as goal

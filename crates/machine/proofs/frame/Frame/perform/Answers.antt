@@ -1,4 +1,4 @@
-use Rattle.std.proofs.Common.{Some, subst, ◌≡◌, ◌+◌, ◌∷◌, Bool, true, false, cond, List, None, sym, refl, ap, ◌∙◌, rules, arith}
+use Rattle.std.proofs.Common.{Some, subst, ◌≡◌, ◌+◌, ◌<◌, ◌∷◌, Bool, true, false, cond, List, None, sym, refl, ap, ◌∙◌, rules, arith}
 use Rattle.std.proofs.lemmas.Bool.{cond-true, cond-false, leb-true}
 use Rattle.std.specs.Option.{is_some, IfNone}
 use Rattle.words.specs.Words.{calculated, divided, passing}
@@ -7,6 +7,7 @@ use Rattle.host.specs.Refusals.{told}
 use Rattle.host.proofs.Ticks.{refused_written}
 use Rattle.faults.specs.declared.cause.Cause.TheVariants.{ZeroDivisor, MemoryPassed}
 use Rattle.faults.specs.Causes.{by_engine}
+use Rattle.module.specs.Layout.{count}
 use Rattle.module.specs.Told.{bytes_behind}
 use Rattle.module.proofs.Accepts.{accepts_body}
 use Rattle.machine.specs.declared.within.Stop.TheVariants.{Trip}
@@ -23,6 +24,10 @@ pub overflow_add-next : goal.overflow_add-next
 overflow_add-next g c =
     let t = c.args.code in
     omega (arith, (foretold_ready (bytes_behind t) (accepts_body t) (jumped (level_of c.args.self.now) c.args.pc) c.requires.foretold).2.place_low)
+
+pub invariant_of-site : goal.invariant_of-site
+invariant_of-site g c =
+    record { there = subst (λ r. c.args.pc < count (bytes_behind c.args.code) r) (sym c.requires.routine) c.requires.foretold.place }
 
 pub push-requires : goal.push-requires
 push-requires g c =

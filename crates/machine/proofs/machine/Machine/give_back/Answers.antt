@@ -1,5 +1,6 @@
-use Rattle.std.proofs.Common.{◌≡◌, ℕ, ◌<◌, List, eqb, true, false, Some, sym, refl, ap, ◌∙◌, arith}
+use Rattle.std.proofs.Common.{◌≡◌, ℕ, ◌<◌, List, [], eqb, true, subst, false, Some, sym, refl, ap, ◌∙◌, arith}
 use Rattle.std.proofs.lemmas.Bool.{cond-true, cond-false, eqb-false}
+use Rattle.host.specs.declared.port.Port.{Port}
 use Rattle.isa.specs.declared.access.Signature.{Signature}
 use Rattle.isa.specs.declared.instr.Instr.{Instr}
 use Rattle.isa.specs.declared.instr.Instr.TheVariants.{Call, Ret}
@@ -12,10 +13,14 @@ use Rattle.machine.specs.declared.frame.Frame.{Frame}
 use Rattle.machine.specs.declared.machine.Machine.{Machine}
 use Rattle.machine.specs.Level.{level_of, onward, given, values_from}
 use Rattle.machine.specs.Nested.{running_routine, waiting, newest_of}
-use Rattle.machine.specs.World.{able, effect, handed, resumed, into, here}
-use Rattle.machine.specs.View.{RunsBody}
+use Rattle.machine.specs.Foretold.{as_foretold}
+use Rattle.machine.specs.Parts.{world_from}
+use Rattle.machine.specs.World.{able, after, effect, handed, resumed, into, here}
+use Rattle.machine.specs.View.{world_of, effect_in, RunsBody}
 use Rattle.machine.proofs.Legal.{Ready, Waits, placed, stands_ready, first_spare, returning}
 use Rattle.machine.proofs.Frames.{split_first}
+use Rattle.machine.proofs.Runs.{foretold_over, after_foretold, end_foretold}
+use Rattle.machine.proofs.Soundness.{never_stuck}
 use Rattle.machine.proofs.Steps.{went, has_ended}
 use Rattle.machine.proofs.machine.Machine.give_back.Goals as goal
 
@@ -51,24 +56,28 @@ module _ (code : Body) (m : Machine) (a : ℕ) (can : able (bytes_behind code) (
             cc
 
 pub returns-then-ends_run-clause-done : goal.returns-then-ends_run-clause-done
-unfolding effect
-returns-then-ends_run-clause-done c = λ rule ports.
-    has_ended c.requires.stands.running (cond-true (eqb (running_routine c.args.self.now.stack).routine 0) _ _ (sym c.if-ends_run.ensures)) refl refl
+unfolding effect world_of
+returns-then-ends_run-clause-done c = λ rule ports. record {
+  leaves = has_ended (bytes_behind c.args.code) rule c.args.self.now ports c.args.self.now.stack c.args.self.now.memory (Ret c.args.a) c.requires.stands.running (cond-true (eqb (running_routine c.args.self.now.stack).routine 0) _ _ (sym c.if-ends_run.ensures)) refl refl;
+}
+
+pub invariant_of-self : goal.invariant_of-self
+invariant_of-self c = record { foretold = end_foretold _ c.args.self.now.stack c.args.self.now.memory }
 
 pub caller-caller-requires : goal.caller-caller-requires
 caller-caller-requires c = (waits c.args.code c.args.self.now c.args.a c.requires.stands.able c.requires.stands.stands c.if-ends_run.ensures).some
 
-pub of-below-requires : goal.of-below-requires
-of-below-requires c =
-    (there c.args.code c.args.self.now c.args.a c.requires.stands.able c.requires.stands.stands c.if-ends_run.ensures c.caller-caller.result.now c.caller-caller.ensures).0
+pub invariant_of-waiting : goal.invariant_of-waiting
+invariant_of-waiting c =
+    record { there = (there c.args.code c.args.self.now c.args.a c.requires.stands.able c.requires.stands.stands c.if-ends_run.ensures c.caller-caller.result.now c.caller-caller.ensures).0 }
 
-pub instruction-requires : goal.instruction-requires
-instruction-requires c =
-    inside_body c.args.code c.args.self.now c.args.a c.requires.stands.able c.requires.stands.stands c.if-ends_run.ensures c.caller-caller.result.now c.caller-caller.ensures c.of-below.result c.of-below.ensures.bytes c.of-below.ensures.routine
+pub invariant_of-call : goal.invariant_of-call
+invariant_of-call c =
+    record { there = inside_body c.args.code c.args.self.now c.args.a c.requires.stands.able c.requires.stands.stands c.if-ends_run.ensures c.caller-caller.result.now c.caller-caller.ensures c.body-below.result c.body-below.ensures.bytes c.body-below.ensures.routine }
 
 pub unreachable-requires : goal.unreachable-requires
 unreachable-requires c =
-    c.in_default.not-Call _ _ _ (stands_there c.args.code c.args.self.now c.args.a c.requires.stands.able c.requires.stands.stands c.if-ends_run.ensures c.caller-caller.result.now c.caller-caller.ensures c.of-below.result c.of-below.ensures.bytes c.of-below.ensures.routine c.instruction.result c.instruction.ensures)
+    c.in_default.not-Call _ _ _ (stands_there c.args.code c.args.self.now c.args.a c.requires.stands.able c.requires.stands.stands c.if-ends_run.ensures c.caller-caller.result.now c.caller-caller.ensures c.body-below.result c.body-below.ensures.bytes c.body-below.ensures.routine c.instruction.result c.instruction.ensures)
 
 pub leave-requires : goal.leave-requires
 leave-requires c =
@@ -76,7 +85,7 @@ leave-requires c =
     let r = ret c.args.code c.args.self.now c.args.a c.requires.stands.able c.requires.stands.stands in
     let w = waits c.args.code c.args.self.now c.args.a c.requires.stands.able c.requires.stands.stands c.if-ends_run.ensures in
     let n = gives bs c.args.self.now c.args.code c.requires.runs c.signature.result c.signature.ensures in
-    let call = stands_there c.args.code c.args.self.now c.args.a c.requires.stands.able c.requires.stands.stands c.if-ends_run.ensures c.caller-caller.result.now c.caller-caller.ensures c.of-below.result c.of-below.ensures.bytes c.of-below.ensures.routine c.instruction.result c.instruction.ensures in
+    let call = stands_there c.args.code c.args.self.now c.args.a c.requires.stands.able c.requires.stands.stands c.if-ends_run.ensures c.caller-caller.result.now c.caller-caller.ensures c.body-below.result c.body-below.ensures.bytes c.body-below.ensures.routine c.instruction.result c.instruction.ensures in
     let at = c.in-Call.is in
     let first : c.in-Call.into ≡ w.a = cc in
     record {
@@ -87,29 +96,44 @@ leave-requires c =
       place = omega (arith, w.caller.place_low);
     }
 
-pub returns-clause-done : goal.returns-clause-done
+-- the world that is left
+left : (c : goal.After-leave) (rule : List Port → List Port) (ports : List Port) →
+    world_from c.args.self.now.state c.leave.new.self c.args.self.now.memory ports
+    ≡ after (world_of c.args.self.now ports) (running_routine c.args.self.now.stack) (effect_in (bytes_behind c.args.code) rule (Ret c.args.a) c.args.self.now ports)
 unfolding effect handed resumed into
-returns-clause-done c = λ rule ports.
+left c rule ports =
     let bs = bytes_behind c.args.code in
     let m = c.args.self.now in
     let l = running_routine m.stack in
     let g = newest_of (waiting m.stack) in
     let w = waits c.args.code m c.args.a c.requires.stands.able c.requires.stands.stands c.if-ends_run.ensures in
     let n = gives bs m c.args.code c.requires.runs c.signature.result c.signature.ensures in
-    let call = stands_there c.args.code m c.args.a c.requires.stands.able c.requires.stands.stands c.if-ends_run.ensures c.caller-caller.result.now c.caller-caller.ensures c.of-below.result c.of-below.ensures.bytes c.of-below.ensures.routine c.instruction.result c.instruction.ensures in
+    let call = stands_there c.args.code m c.args.a c.requires.stands.able c.requires.stands.stands c.if-ends_run.ensures c.caller-caller.result.now c.caller-caller.ensures c.body-below.result c.body-below.ensures.bytes c.body-below.ensures.routine c.instruction.result c.instruction.ensures in
     let at = c.in-Call.is in
     let first : c.in-Call.into ≡ w.a = cc in
     let wants : into bs g.routine (here bs g) ≡ w.a = ap (into bs g.routine) w.caller.stands in
     let vs = values_from l.registers c.args.a (results bs l.routine) in
-    went c.requires.stands.running refl
+    went bs rule m ports c.leave.new.self m.memory (Ret c.args.a) c.requires.stands.running refl
     (cond-false (eqb l.routine 0) _ _ (sym c.if-ends_run.ensures) ∙ ap (λ ls. handed bs vs ls m.memory.bytes ports) (split_first (waiting m.stack) w.some))
     (c.leave.ensures.running ∙ (λ i. onward g (given g.registers ((first ∙ sym wants) i) (values_from l.registers c.args.a (n i)))))
     c.leave.ensures.waiting refl refl
+
+pub invariant_of-self-2 : goal.invariant_of-self-2
+invariant_of-self-2 c =
+    let m = c.args.self.now in
+    let bs = bytes_behind c.args.code in
+    let told = after_foretold bs (never_stuck bs (accepts_body c.args.code)) m _ (foretold_over m c.requires.runs) c.requires.stands in
+    record { foretold = subst (λ b. as_foretold b (world_from m.state c.leave.new.self m.memory []) ≡ true) (sym c.requires.runs.upon) (ap (as_foretold bs) (left c (λ ps. ps) []) ∙ told) }
+
+pub returns-clause-done : goal.returns-clause-done
+unfolding world_of
+returns-clause-done c = λ rule ports. record { leaves = left c.before rule ports }
 
 pub returns-clause-runs : goal.returns-clause-runs
 returns-clause-runs c =
     record {
       running = c.requires.stands.running;
-      bytes = c.of-below.ensures.bytes;
-      routine = c.of-below.ensures.routine ∙ ap (λ l. l.routine) c.caller-caller.ensures ∙ ap (λ l. l.routine) (sym c.leave.ensures.running);
+      bytes = c.body-below.ensures.bytes;
+      upon = c.requires.runs.upon;
+      routine = c.body-below.ensures.routine ∙ ap (λ l. l.routine) c.caller-caller.ensures ∙ ap (λ l. l.routine) (sym c.leave.ensures.running);
     }

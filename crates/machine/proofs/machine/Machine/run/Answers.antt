@@ -1,13 +1,14 @@
-use Rattle.std.proofs.Common.{◌≡◌, ◌≢◌, ℕ, ◌+◌, ◌-◌, ◌≤◌, List, [], true, IfSome, sym, refl, ap, ◌∙◌, subst, arith}
+use Rattle.std.proofs.Common.{◌≡◌, ◌≢◌, ℕ, ◌+◌, ◌-◌, ◌≤◌, List, [], IfSome, sym, refl, ap, ◌∙◌, subst, arith}
 use Rattle.std.specs.Option.{IfNone}
-use Rattle.module.specs.Told.{bytes_of}
-use Rattle.machine.specs.Foretold.{AsForetold, as_foretold}
+use Rattle.module.proofs.Accepts.{accepts_checked}
+use Rattle.machine.specs.Foretold.{AsForetold}
 use Rattle.machine.specs.Fuel.{TickRule, steps, advanced, Goes}
-use Rattle.machine.specs.View.{world_of, RunsBody}
+use Rattle.machine.specs.View.{module_of, world_of, RunsBody}
 use Rattle.machine.specs.World.{World, running}
 use Rattle.machine.proofs.Bodies.{has_body}
-use Rattle.machine.proofs.Fuel.{other_phase, goes_then, none_made}
-use Rattle.machine.proofs.Runs.{rests, any_phase, running_foretold}
+use Rattle.machine.proofs.Fuel.{other_phase, goes_then, none_made, spent}
+use Rattle.machine.proofs.Runs.{as_its_type_says, rests, any_ports, any_phase, running_foretold}
+use Rattle.machine.proofs.Soundness.{never_stuck}
 use Rattle.machine.proofs.machine.Machine.run.Goals as goal
 use Rattle.machine.proofs.machine.Machine.run.Goals.{else-loop-left-test, then-loop-left-test+in_default-next}
 
@@ -15,19 +16,26 @@ pub returns-in_default : goal.returns-in_default
 returns-in_default g c =
     let h = g.H.Host in
     let ports = h.ports c.args.host.now in
-    let none = none_made (bytes_of c.args.checked.now.opened) (h.rule (h.base c.args.host.now)) c.args.fuel (world_of c.args.self.now ports) (other_phase _ (rests c.args.self.now ports c.in_default.not-Running)) in
-    record { made = sym none; world = refl; foretold = c.requires.foretold; base = refl }
+    let none = none_made (module_of c.args.self.now) (h.rule (h.base c.args.host.now)) c.args.fuel (world_of c.args.self.now ports) (other_phase _ (rests c.args.self.now ports c.in_default.not-Running)) in
+    record {
+      made = sym none;
+      world = refl;
+      spends = record { within = omega arith; stopped = λ _. rests c.args.self.now ports c.in_default.not-Running; lead = refl };
+      bytes = refl;
+      base = refl;
+    }
 
 pub unwrap-code-requires : goal.unwrap-code-requires
 unwrap-code-requires g c =
-    let bs = bytes_of c.args.checked.now.opened in
-    let told = subst (AsForetold bs) (sym c.running.ensures) (running_foretold bs c.args.self.now c.requires.foretold c.in-Running.is) in
+    let bs = module_of c.args.self.now in
+    let told = subst (AsForetold bs) (sym c.running.ensures) (running_foretold bs c.args.self.now (as_its_type_says c.args.self.now) c.in-Running.is) in
     has_body bs c.running.result.now.routine c.body.result c.body.ensures told.routine
 
 pub loop-left-preserved : goal.loop-left-preserved
+unfolding world_of
 loop-left-preserved g c =
     let h = g.H.Host in
-    let bs = bytes_of c.args.checked.now.opened in
+    let bs = module_of c.args.self.now in
     let rule = h.rule (h.base c.args.host.now) in
     let inv = c.loop-left.invariant in
     let rest = c.turn-rest.result.0 in
@@ -40,7 +48,6 @@ loop-left-preserved g c =
       goes = subst (λ n. Goes bs rule n first later) all (goes_then bs rule inv.goes more);
       few = omega (arith, c.turn-rest.ensures.less, inv.few);
       runs = subst (λ o. IfSome o (RunsBody bs c.turn-rest.new.self)) c.in-Some.is (subst (λ b. IfSome c.turn-rest.result.1 (RunsBody b c.turn-rest.new.self)) inv.runs.bytes c.turn-rest.ensures.runs);
-      foretold = subst (λ b. as_foretold b (world_of c.turn-rest.new.self []) ≡ true) inv.runs.bytes c.turn-rest.ensures.foretold;
       base = c.turn-rest.ensures.base ∙ inv.base;
     }
 
@@ -52,9 +59,10 @@ made bs rule fuel left first later few goes none =
     omega (arith, counted, none)
 
 pub returns-clause-made : goal.returns-clause-made
+unfolding world_of
 returns-clause-made g c =
     let h = g.H.Host in
-    let bs = bytes_of c.args.checked.now.opened in
+    let bs = module_of c.args.self.now in
     let rule = h.rule (h.base c.args.host.now) in
     let inv = c.loop-left.invariant in
     let fuel = c.args.fuel in
@@ -77,9 +85,10 @@ returns-clause-made g c =
     ]
 
 pub returns-clause-world : goal.returns-clause-world
+unfolding world_of
 returns-clause-world g c =
     let h = g.H.Host in
-    let bs = bytes_of c.args.checked.now.opened in
+    let bs = module_of c.args.self.now in
     let rule = h.rule (h.base c.args.host.now) in
     let inv = c.loop-left.invariant in
     let fuel = c.args.fuel in
@@ -95,4 +104,19 @@ returns-clause-world g c =
           let all : fuel - c.loop-left.left + (c.loop-left.left - rest) ≡ fuel - rest = omega (arith, inv.few, w.turn-rest.ensures.less) in
           let goes = subst (λ n. Goes bs rule n first later) all (goes_then bs rule inv.goes more) in
           (λ i. world_of (w.self-is i) (h.ports (w.host-is i))) ∙ sym goes.reaches ∙ (λ i. advanced bs rule (fuel - sym w.left-is i) first)
+    ]
+
+pub returns-clause-spends : goal.returns-clause-spends
+returns-clause-spends g c =
+    let h = g.H.Host in
+    let m = c.args.self.now in
+    let foretold = any_ports (module_of m) m [] (h.ports c.args.host.now) (as_its_type_says m) in
+    spent (module_of m) (h.rule (h.base c.args.host.now)) (never_stuck (module_of m) (accepts_checked m.checked)) foretold (returns-clause-made g c) (returns-clause-world g c)
+
+pub returns-clause-bytes : goal.returns-clause-bytes
+returns-clause-bytes g c =
+    let inv = c.loop-left.invariant in
+    elim c.loop-left-test.branch [
+      | else-loop-left-test w ↦ ap module_of w.self-is ∙ inv.runs.upon
+      | then-loop-left-test+in_default-next w ↦ ap module_of w.self-is ∙ w.turn-rest.ensures.bytes ∙ inv.runs.upon
     ]

@@ -1,7 +1,8 @@
 use Rattle.std.proofs.Common.{Some, sym, ap, inl, inr, ◌∙◌}
 use Rattle.machine.specs.declared.machine.State.{State}
 use Rattle.machine.specs.Shown.{running_in}
-use Rattle.machine.specs.View.{world_of, levels_in}
+use Rattle.machine.specs.Parts.{levels_in}
+use Rattle.machine.specs.View.{world_of}
 use Rattle.machine.proofs.machine.Machine.running.Goals as goal
 
 pub returns-in-Ended : goal.returns-in-Ended

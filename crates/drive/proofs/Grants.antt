@@ -1,0 +1,78 @@
+-- What an accepted grant is, in plain words.
+use Rattle.std.proofs.Common.{◌≡◌, ◌≢◌, ℕ, zero, suc, ◌≤◌, Bool, true, false, cond, List, Some, None, Ok, Err, Option, Result, IfOk, sym, refl, ap, ◌∙◌, subst, arith}
+use Rattle.std.proofs.lemmas.Bool.{and_parts, leb-true}
+use Rattle.refusal.specs.Values.{Values, caller}
+use Rattle.host.specs.declared.port.Port.{Port}
+use Rattle.machine.specs.World.{Phase, running, ended, tripped, World}
+use Rattle.machine.specs.Fuel.{TickRule, by_phase, steps, advanced, Spends}
+use Rattle.machine.proofs.Fuel.{spent}
+use Rattle.drive.specs.declared.call.Call.{Call}
+use Rattle.drive.specs.declared.call.Call.TheVariants.{Grant}
+use Rattle.drive.specs.declared.drive.Drive.{Drive}
+use Rattle.drive.specs.Calls.{is_fuel, refusal, Outcome, done, unless_refused, outcome}
+use Rattle.drive.specs.View.{module_of, world_in, Called, Granted}
+use Rattle.drive.proofs.Stepping.{never, foretold_in}
+
+-- a grant that is not refused is to a drive that runs
+pub grants_run : (fuel : ℕ) (phase : Phase) → refusal (Grant fuel) phase ≡ None → phase ≡ running
+grants_run fuel running h = refl
+grants_run fuel ended h = absurd (go (is_fuel fuel) h)
+  where
+    go : (b : Bool) → cond b (Some (caller 15)) (Some (caller 14)) ≡ None → ⊥
+    go true h = cc
+    go false h = cc
+grants_run fuel (tripped t) h = absurd (go (is_fuel fuel) h)
+  where
+    go : (b : Bool) → cond b (Some (caller 16)) (Some (caller 14)) ≡ None → ⊥
+    go true h = cc
+    go false h = cc
+
+-- and of some fuel
+grants_fuel : (fuel : ℕ) (phase : Phase) → refusal (Grant fuel) phase ≡ None → 1 ≤ fuel
+grants_fuel fuel phase h = go (is_fuel fuel) refl h
+  where
+    go : (b : Bool) → is_fuel fuel ≡ b → cond b (by_phase phase None (Some (caller 15)) (Some (caller 16))) (Some (caller 14)) ≡ None → 1 ≤ fuel
+    go true is h = leb-true 1 fuel (and_parts _ _ is).0
+    go false is h = absurd cc
+
+-- fuel that a running machine spends makes a step
+spends_some : (bs : List ℕ) (rule : TickRule) (fuel : ℕ) (w : World) (made : ℕ) (v : World) → w.phase ≡ running → 1 ≤ fuel → Spends bs rule fuel w made v → 1 ≤ made
+spends_some bs rule fuel w zero v run some told = absurd (told.stopped some (ap (λ u. u.phase) told.lead ∙ run))
+spends_some bs rule fuel w (suc made) v run some told = omega arith
+
+granted : (rule : TickRule) (fuel : ℕ) (d : Drive) (ps : List Port) (said : ℕ × Phase) (e : Drive) (qs : List Port)
+    → Called rule (Grant fuel) d ps (Ok said) e qs
+    → Granted rule fuel d ps said e qs
+granted rule fuel d ps said e qs called = by_refusal (refusal (Grant fuel) w.phase) refl
+  where
+    bs : List ℕ
+    bs = module_of d
+
+    w : World
+    w = world_in d ps
+
+    by_refusal : (r : Option Values) → refusal (Grant fuel) w.phase ≡ r → Granted rule fuel d ps said e qs
+    by_refusal (Some e) h =
+        let is : ◌≡◌ {A = Result (ℕ × Phase) Values} (Ok said) (Err e) = called.answer ∙ ap (λ r. (unless_refused r w (done bs rule (Grant fuel) w)).answer) h in
+        absurd cc
+    by_refusal None h =
+        let n = steps bs rule fuel w in
+        let later = advanced bs rule n w in
+        let is : ◌≡◌ {A = Result (ℕ × Phase) Values} (Ok said) (Ok (n, later.phase)) = called.answer ∙ ap (λ r. (unless_refused r w (done bs rule (Grant fuel) w)).answer) h in
+        let same : said ≡ (n, later.phase) = cc in
+        let left : world_in e qs ≡ later = called.world ∙ ap (λ r. (unless_refused r w (done bs rule (Grant fuel) w)).world) h in
+        let count : said.0 ≡ n = ap (λ s. s.0) same in
+        let here : Spends bs rule fuel w said.0 (world_in e qs)
+        = spent bs rule (never d) (foretold_in d ps) count (left ∙ ap (λ k. advanced bs rule k w) (sym count)) in
+        record {
+          some = spends_some bs rule fuel w said.0 (world_in e qs) (grants_run fuel w.phase h) (grants_fuel fuel w.phase h) here;
+          spends = here;
+          phase = ap (λ s. s.1) same ∙ sym (ap (λ u. u.phase) left);
+        }
+
+-- so an answer of a grant is one if it is no refusal
+pub granted_if : {rule : TickRule} {fuel : ℕ} {d : Drive} {ps : List Port} (answer : Result (ℕ × Phase) Values) {e : Drive} {qs : List Port}
+    → Called rule (Grant fuel) d ps answer e qs
+    → IfOk answer (λ said. Granted rule fuel d ps said e qs)
+granted_if (Ok said) called = granted _ _ _ _ said _ _ called
+granted_if (Err e) called = tt
