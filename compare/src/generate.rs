@@ -89,7 +89,7 @@ pub struct Contents {
 pub struct Case {
     pub kind: Kind,
     pub module: Vec<u8>,
-    /// The rows of the sheet of the check; the run has a sheet of 4,096.
+    /// The rows of the sheet of the check; the run has a sheet of 4,096. The engine takes more than those for 4,096.
     pub rows: usize,
     pub host: Vec<u8>,
     pub calls: Vec<u8>,
@@ -653,13 +653,16 @@ fn host(random: &mut Random) -> (Vec<u8>, usize) {
     (host, rows.min(256))
 }
 
-/// A list of calls: a few of all kinds, or many grants and restarts, for many trips.
+/// A list of calls: a few of all kinds, or many grants and restarts, for many trips; now and then about as many as the engine
+/// makes, or more.
 fn calls(random: &mut Random) -> Vec<u8> {
     let many = random.percent(4);
-    let count = if many {
+    let count = if !many {
+        random.below(10)
+    } else if random.percent(75) {
         20 + random.below(60)
     } else {
-        random.below(10)
+        random.pick(&[255, 256, 256, 256, 257, 258, 300, 512])
     };
     let mut calls = Vec::new();
     for k in 0..count {
@@ -688,13 +691,28 @@ fn calls(random: &mut Random) -> Vec<u8> {
     calls
 }
 
-/// The number of instructions by the entries, where there are that many bytes.
-fn total(module: &[u8]) -> usize {
+/// The number of instructions by the entries, where there are that many bytes. In a module that opens this is T.
+pub fn total(module: &[u8]) -> usize {
     let routines = module.first().map_or(0, |n| usize::from(*n));
     (0..routines)
         .filter_map(|r| module.get(8 + 8 * r..10 + 8 * r))
         .map(|count| usize::from(u16::from_le_bytes([count[0], count[1]])))
         .sum()
+}
+
+/// How many rows a sheet has: as many as there are instructions, a few more or fewer, none, as many as are enough for every
+/// module, or more than those.
+fn sheet(random: &mut Random, instructions: usize) -> usize {
+    match random.below(20) {
+        0..=4 => instructions,
+        5..=8 => instructions + 1,
+        9..=11 => instructions + 1 + random.below(20),
+        12..=13 => instructions.saturating_sub(1),
+        14 => random.below(instructions + 1),
+        15 => 0,
+        16 => random.pick(&[4_095, 4_097, 5_000]),
+        _ => 4_096,
+    }
 }
 
 /// A number near another: often that one, or one less or more.
@@ -869,15 +887,9 @@ impl Case {
             }
         }
         let total = total(&module);
-        let rows = match random.below(10) {
-            0 => total,
-            1 => total.saturating_sub(1),
-            2 => random.below(total + 2),
-            _ => 4_096,
-        };
         Case {
             kind,
-            rows: rows.min(4_096),
+            rows: sheet(random, total),
             lent: (
                 near(random, module.first().map_or(0, |n| usize::from(*n)), 64),
                 near(random, total, 4_096),

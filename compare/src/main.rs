@@ -1,13 +1,15 @@
 //! Puts the same modules, hosts, calls and contents to the engine and to the reading, and compares every byte that they write.
 //!
 //! `compare [MODULES [SEED]]`. It stops at the first difference and prints what was put to both. At the end it prints how
-//! often each refusal of each call, each cause of a trip and each state was met, and wants that each was.
+//! often each refusal of each call, each cause of a trip, each state, each answer of a check over sheets of each length, and
+//! lists of calls of each length were met, and wants that each was.
 
 mod engine;
 mod generate;
 
 use compare::reading::exchange;
 use generate::{Case, Contents, Kind, Random};
+use std::cmp::Ordering;
 use std::env;
 use std::fmt::Write;
 use std::process::ExitCode;
@@ -37,6 +39,25 @@ const GIVERS: [(Giver, &str, &[usize]); 4] = [
 
 const STATES: [&str; 3] = ["running", "ended", "tripped"];
 
+/// What check answers, and how long the sheet is; more than 4,096 rows are 4,096.
+const SHEETS: [&str; 8] = [
+    "open refuses, over no rows",
+    "open refuses, over rows",
+    "check refuses with 12, over no rows",
+    "check refuses with 12, over rows",
+    "a rule is broken, over T rows",
+    "a rule is broken, over more",
+    "check accepts, over T rows",
+    "check accepts, over more",
+];
+
+/// The longest sheet and list of calls for which the engine has room.
+const MOST_ROWS: usize = 4_096;
+const MOST_CALLS: usize = 256;
+
+/// How long a list of calls to a drive is.
+const LISTS: [&str; 3] = ["fewer than 256 calls", "256 calls", "more than 256 calls"];
+
 /// How often everything was met.
 #[derive(Default)]
 struct Tally {
@@ -49,6 +70,10 @@ struct Tally {
     packed: usize,
     /// By what gave them, and by number; 0 stands for none.
     refusals: [[usize; 19]; 4],
+    sheets: [usize; 8],
+    /// Sheets of more rows than the engine has room for, where the module opens.
+    longer: usize,
+    lists: [usize; 3],
     causes: [usize; 7],
     states: [usize; 3],
     faults: usize,
@@ -75,9 +100,12 @@ impl Written<'_> {
 }
 
 impl Tally {
-    fn refusal(&mut self, giver: Giver, written: &mut Written) {
-        self.refusals[giver as usize][written.byte()] += 1;
+    /// Answers the number of the refusal.
+    fn refusal(&mut self, giver: Giver, written: &mut Written) -> usize {
+        let number = written.byte();
+        self.refusals[giver as usize][number] += 1;
         written.number(5);
+        number
     }
 
     fn state(&mut self, written: &mut Written) {
@@ -90,11 +118,19 @@ impl Tally {
         }
     }
 
-    fn check(&mut self, bytes: &[u8]) {
+    fn check(&mut self, bytes: &[u8], case: &Case) {
         let mut written = Written(bytes);
-        if written.byte() == 1 {
-            self.refusal(Giver::Check, &mut written);
-        }
+        let refused = (written.byte() == 1).then(|| self.refusal(Giver::Check, &mut written));
+        let rows = case.rows.min(MOST_ROWS);
+        let more = rows > generate::total(&case.module);
+        let sheet = match refused {
+            Some(1..=4) => usize::from(rows > 0),
+            Some(12) => 2 + usize::from(rows > 0),
+            Some(_) => 4 + usize::from(more),
+            None => 6 + usize::from(more),
+        };
+        self.sheets[sheet] += 1;
+        self.longer += usize::from(case.rows > MOST_ROWS && sheet > 1);
     }
 
     fn unpack(&mut self, bytes: &[u8]) {
@@ -104,7 +140,8 @@ impl Tally {
             return;
         }
         if written.byte() == 1 {
-            return self.refusal(Giver::Unpack, &mut written);
+            self.refusal(Giver::Unpack, &mut written);
+            return;
         }
         self.unpacked += 1;
     }
@@ -112,18 +149,27 @@ impl Tally {
     fn pack(&mut self, bytes: &[u8]) {
         let mut written = Written(bytes);
         if written.byte() == 1 {
-            return self.refusal(Giver::Pack, &mut written);
+            self.refusal(Giver::Pack, &mut written);
+            return;
         }
         self.packed += 1;
     }
 
-    fn run(&mut self, bytes: &[u8], calls: usize, table: bool) {
+    fn run(&mut self, bytes: &[u8], case: &Case) {
         let mut written = Written(bytes);
         if written.byte() == 1 {
-            return self.refusal(Giver::Check, &mut written);
+            self.refusal(Giver::Check, &mut written);
+            return;
         }
         self.accepted += 1;
-        self.over_axis += usize::from(!table);
+        self.over_axis += usize::from(case.host.is_empty());
+        let list = match (case.calls.len() / 5).cmp(&MOST_CALLS) {
+            Ordering::Less => 0,
+            Ordering::Equal => 1,
+            Ordering::Greater => 2,
+        };
+        self.lists[list] += 1;
+        let calls = written.number(4) as usize;
         self.calls += calls;
         for _ in 0..calls {
             if written.byte() == 1 {
@@ -190,6 +236,13 @@ impl Tally {
         for (state, count) in STATES.iter().zip(self.states) {
             print(state, count);
         }
+        for (sheet, count) in SHEETS.iter().zip(self.sheets) {
+            print(sheet, count);
+        }
+        print("check over more than 4,096 rows", self.longer);
+        for (list, count) in LISTS.iter().zip(self.lists) {
+            print(list, count);
+        }
         all
     }
 }
@@ -246,13 +299,13 @@ fn main() -> ExitCode {
         if engine != reading {
             return differ("check", number, &case, &engine, &reading);
         }
-        tally.check(&engine);
+        tally.check(&engine, &case);
         let engine = engine::run(&case.module, &case.host, &case.calls);
         let reading = exchange::run(&case.module, &case.host, &case.calls);
         if engine != reading {
             return differ("run", number, &case, &engine, &reading);
         }
-        tally.run(&engine, case.calls.len() / 5, !case.host.is_empty());
+        tally.run(&engine, &case);
         let (entries, rows) = case.lent;
         let engine = engine::unpack(&case.module, entries, rows);
         let reading = exchange::unpack(&case.module, entries, rows);

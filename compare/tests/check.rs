@@ -84,6 +84,80 @@ fn the_changed_worked_examples() {
     assert_eq!(refused, 10);
 }
 
+/// CHECK.md, "One smallest module for each rule" and "Fine points", and REFUSALS.md, "What holds
+/// after a refusal": a broken rule clears the first T rows and keeps the others, and a 12 keeps
+/// all. `into_checked` leaves the sheet as check does.
+#[test]
+fn what_sheets_hold_after_check() {
+    let mut broken = [0; 12];
+    for heading in ["One smallest module for each rule", "Fine points"] {
+        for [bytes, prints] in tables("CHECK.md", heading)[0].columns(["Module", "bench prints"]) {
+            let module = hex(bytes);
+            let opened = open(&module).unwrap();
+            let t = opened.instructions();
+            for rows in (0..t + 4).chain([4095, 4096, 5000]) {
+                // Each row is another one before.
+                let before: Vec<Shape> = (0..rows)
+                    .map(|k| Shape {
+                        depth: 1000 + k as u16,
+                        mask: !(k as u32),
+                    })
+                    .collect();
+                let mut sheet = before.clone();
+                let answer = opened.check(&mut sheet);
+                let mut taken = before.clone();
+                let of_taking = opened.clone().into_checked(&mut taken);
+                assert_eq!(of_taking.map(|_| ()), answer);
+                assert_eq!(taken, sheet);
+                if rows < t {
+                    assert_eq!(answer, Err(Refusal::Sheet));
+                    assert_eq!(sheet, before);
+                    continue;
+                }
+                assert_eq!(sheet[t..], before[t..]);
+                match answer {
+                    Ok(()) => assert!(!prints.contains("refused")),
+                    Err(refusal) => {
+                        assert_eq!(format!("`{refusal}`"), prints);
+                        assert_eq!(sheet[..t], vec![Shape::default(); t]);
+                        broken[usize::from(refusal.number())] += 1;
+                    }
+                }
+            }
+        }
+    }
+    assert!(broken[5..].iter().all(|count| *count > 0), "{broken:?}");
+}
+
+/// CHECK.md, "The sheet": what it holds before makes no difference to the answer, nor to the rows
+/// that check writes.
+#[test]
+fn what_a_sheet_holds_before() {
+    let modules = [
+        module_of("CHECK.md", "loop"),
+        single(&[def(0), (3, 0, 0, 0, 0), RET]),
+    ];
+    for module in modules {
+        let opened = open(&module).unwrap();
+        let mut after = [Shape::default(); 10];
+        let answer = opened.check(&mut after);
+        for row in [
+            BEFORE,
+            Shape {
+                depth: u16::MAX,
+                mask: u32::MAX,
+            },
+        ] {
+            let mut sheet = [row; 10];
+            assert_eq!(opened.check(&mut sheet), answer);
+            let t = opened.instructions();
+            assert_eq!(sheet[..t], after[..t]);
+        }
+        // Nor does what an earlier check left.
+        assert_eq!(opened.check(&mut after), answer);
+    }
+}
+
 /// FORMAT.md: T is 11 and D is 3 of the second module; what open shows of it.
 #[test]
 fn what_open_shows() {

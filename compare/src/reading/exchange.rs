@@ -18,9 +18,21 @@ const INSTRUCTION: usize = 8;
 /// All bytes of what is lent to be written to.
 const LENT: u8 = 0xEE;
 
-/// The answer of open and check for the bytes of a module, over a sheet of so many rows.
+/// A row of a sheet that is lent.
+const LENT_SHAPE: Shape = Shape {
+    depth: u16::from_le_bytes([LENT; 2]),
+    mask: u32::from_le_bytes([LENT; 4]),
+};
+
+/// What the engine has room for: of a longer list so many calls are made, and a longer sheet is
+/// taken for one of so many rows.
+const MOST_CALLS: usize = 256;
+const MOST_SHAPES: usize = MOST_INSTRUCTIONS;
+
+/// The answer of open and check for the bytes of a module, over a sheet of so many rows, and the
+/// sheet as it is then.
 pub fn check(module: &[u8], rows: usize) -> Vec<u8> {
-    let mut sheet = vec![Shape::default(); rows];
+    let mut sheet = vec![LENT_SHAPE; rows.min(MOST_SHAPES)];
     let mut out = Vec::new();
     let answer = checked(module, &mut sheet);
     if let Some(opened) = put_answered(&mut out, answer) {
@@ -31,10 +43,10 @@ pub fn check(module: &[u8], rows: usize) -> Vec<u8> {
         ] {
             put32(&mut out, count as u32);
         }
-        for shape in &sheet[..opened.instructions()] {
-            out.push(shape.depth as u8);
-            put32(&mut out, shape.mask);
-        }
+    }
+    for shape in sheet {
+        put16(&mut out, shape.depth);
+        put32(&mut out, shape.mask);
     }
     out
 }
@@ -72,8 +84,11 @@ pub fn run(module: &[u8], host: &[u8], calls: &[u8]) -> Vec<u8> {
             None => Host::axis(),
         };
         let mut drive = Drive::start(checked);
-        for call in calls.chunks_exact(CALL) {
-            put_answer(&mut out, drive.call(&mut host, call_of(call)));
+        let calls = calls.chunks_exact(CALL).map(call_of).take(MOST_CALLS);
+        let answers: Vec<_> = calls.map(|call| drive.call(&mut host, call)).collect();
+        put32(&mut out, answers.len() as u32);
+        for answer in answers {
+            put_answer(&mut out, answer);
         }
         put_drive(&mut out, &drive);
         put16(&mut out, host.ports().len() as u16);

@@ -324,7 +324,10 @@ impl<'a> Opened<'a> {
         Ok(())
     }
 
-    /// The texts of all routines of a module that keeps the rules; the sheet is filled.
+    /// The texts of all routines of a module that keeps the rules. The first T rows of the sheet
+    /// are filled then, and cleared where a rule is broken; the rows after them stay, and so do all
+    /// rows of a sheet that is too short (docs/CHECK.md, "The sheet", and docs/REFUSALS.md, "What
+    /// holds after a refusal").
     fn accepted(&self, sheet: &mut [Shape]) -> Result<Vec<Text>, Refusal> {
         // A sheet of fewer than T rows is refused before any rule is tried.
         if sheet.len() < self.instructions {
