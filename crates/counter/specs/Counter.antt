@@ -1,10 +1,10 @@
 -- The counter: its two ports, and its tick rule.
-use Rattle.std.specs.Prelude.{ℕ, ◌+◌, ◌-◌, ◌%◌, ◌^◌, List, [], ◌∷◌, Some, None}
+use Rattle.std.specs.Prelude.{ℕ, ◌+◌, ◌-◌, ◌*◌, ◌%◌, ◌^◌, List, [], ◌∷◌, Some, None}
 use Rattle.std.proofs.Common.{lit≤}
 use Rattle.host.specs.declared.port.Flag.TheVariants.{Order, Sense}
 use Rattle.host.specs.declared.port.Port.{Port}
 use Rattle.host.specs.Ports.{value_at}
-use Rattle.host.specs.Lawful.{LawfulHost, sensing, sensing_lawful}
+use Rattle.host.specs.Lawful.{LawfulHost, stays, shows}
 use Rattle.counter.specs.declared.CounterHost.{CounterHost}
 use Rattle.counter.specs.declared.CounterPort.{CounterPort}
 use Rattle.counter.specs.declared.CounterPort.TheVariants.{Pace, Count}
@@ -24,13 +24,16 @@ ports_with pace count =
 abbrev pub counter_ports : CounterHost → List Port
 counter_ports counter = ports_with counter.pace counter.count
 
--- the ports after a tick: the count gains the pace, modulo 2 ^ 32
-abbrev pub counted : List Port → List Port
-counted ports = ports_with (value_at ports 0) ((value_at ports 1 + value_at ports 0) % 2 ^ 32)
+-- what no call changes: how many parcels a carton holds
+abbrev pub counter_base : CounterHost → ℕ
+counter_base counter = counter.parcels
 
--- the tick rule: the values of the sense ports are those that are counted
-abbrev pub counter_rule : List Port → List Port
-counter_rule ports = sensing ports (counted ports)
+-- the tick rule, where a carton holds so many parcels: the count gains the parcels that passed, modulo 2 ^ 32
+abbrev pub counter_rule : ℕ → List Port → List Port
+counter_rule parcels ports =
+    let pace : ℕ = value_at ports 0 in
+    ports_with pace ((value_at ports 1 + pace * parcels) % 2 ^ 32)
 
-pub counter_lawful : LawfulHost {Base = Unit {0}} counter_ports (λ _. counter_rule)
-counter_lawful = record { few = λ _. lit≤ tt; senses = λ _ ports. sensing_lawful ports (counted ports) }
+-- the law: after a tick the first port stays, and the second shows another value
+pub counter_lawful : LawfulHost counter_base counter_ports counter_rule
+counter_lawful = record { few = λ _. lit≤ tt; senses = λ _ _. (stays, (shows, tt)) }

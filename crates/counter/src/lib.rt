@@ -2,9 +2,9 @@
 
 #![tactic(auto)]
 
-ghost use Rattle.std.specs.Prelude.{◌≡◌};
+ghost use Rattle.std.specs.Prelude.{◌≡◌, ℕ};
 ghost use Rattle.host.specs.Ports.{NamesPort};
-ghost use Rattle.counter.specs.Counter.{port_number, counter_ports, ports_with, counter_rule, counter_lawful};
+ghost use Rattle.counter.specs.Counter.{port_number, ports_with, counter_base, counter_ports, counter_rule, counter_lawful};
 
 use host::Host;
 use host::port::HostRefusal;
@@ -34,21 +34,33 @@ impl TryFrom<usize> for CounterPort {
     }
 }
 
-/// Counts the parcels that pass.
+/// Counts the parcels that pass, in cartons.
 #[derive(Drop)]
 pub struct CounterHost {
-    /// Port 0: how many parcels pass in a tick.
+    /// How many parcels a carton holds. No call changes it.
+    parcels: u32,
+    /// Port 0: how many cartons pass in a tick.
     pace: u32,
-    /// Port 1: how many have passed.
+    /// Port 1: how many parcels have passed.
     count: u32,
 }
 
 impl CounterHost {
-    /// A counter at 0.
+    /// A counter at 0, of cartons with one parcel.
     pub fn new() -> Self
-        ensures { counter_ports result ≡ ports_with 1 0 }
+        ensures ports { counter_ports result ≡ ports_with 1 0 }
+        ensures base { counter_base result ≡ 1 }
+    {
+        CounterHost::of_cartons(1)
+    }
+
+    /// A counter at 0, of cartons with so many parcels.
+    pub fn of_cartons(parcels: u32) -> Self
+        ensures ports { counter_ports result ≡ ports_with 1 0 }
+        ensures base { counter_base result ≡ parcels }
     {
         CounterHost {
+            parcels,
             pace: RESTING,
             count: 0,
         }
@@ -56,13 +68,13 @@ impl CounterHost {
 }
 
 impl Host for CounterHost {
-    ghost Base = { Unit {0} };
+    ghost Base = { ℕ };
 
-    ghost base = { λ _. tt };
+    ghost base = { counter_base };
 
     ghost ports = { counter_ports };
 
-    ghost rule = { λ _. counter_rule };
+    ghost rule = { counter_rule };
 
     fn read(&self, p: usize) -> Result<u32, HostRefusal> {
         match CounterPort::try_from(p)? {
@@ -83,7 +95,8 @@ impl Host for CounterHost {
     }
 
     fn tick(&mut self) {
-        self.count = self.count.wrapping_add(self.pace);
+        let passed = self.pace.wrapping_mul(self.parcels);
+        self.count = self.count.wrapping_add(passed);
     }
 
     fn rest(&mut self) {

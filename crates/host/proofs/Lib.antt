@@ -1,3 +1,4 @@
 pub mod Fronts
+pub mod SamePorts
 pub mod Sweep
 pub mod Ticks

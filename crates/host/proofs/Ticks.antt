@@ -6,8 +6,9 @@ use Rattle.std.specs.List.{AllZip}
 use Rattle.refusal.specs.Values.{Values}
 use Rattle.host.specs.declared.port.Port.{Port}
 use Rattle.host.specs.Ports.{blank, value_at, reading, with_value, ordering, writing, written, if_ok}
-use Rattle.host.specs.Lawful.{Sensed, unchanged_ports}
+use Rattle.host.specs.Lawful.{Sensed, LawfulHost, unchanged_ports}
 use Rattle.host.specs.Response.{ticked}
+use Rattle.host.proofs.SamePorts.{same_sensed, tick_senses}
 
 sensed_trans : (p q r : Port) → Sensed p q → Sensed q r → Sensed p r
 sensed_trans p q r s t = record {
@@ -23,10 +24,14 @@ senses_trans (p ∷ ps) [] rs s t = absurd s
 senses_trans [] [] (r ∷ rs) s t = absurd t
 senses_trans (p ∷ ps) (q ∷ qs) [] s t = absurd t
 
--- any number of ticks changes only values of sense ports, as one does
-pub ticked_senses : (rule : List Port → List Port) → ((ps : List Port) → AllZip Sensed ps (rule ps)) → (n : ℕ) (ports : List Port) → AllZip Sensed ports (ticked n rule ports)
-ticked_senses rule senses zero ports = unchanged_ports ports
-ticked_senses rule senses (suc n) ports = senses_trans ports (ticked n rule ports) (rule (ticked n rule ports)) (ticked_senses rule senses n ports) (senses (ticked n rule ports))
+-- any number of ticks of a host changes only values of sense ports, as one does
+pub ticked_senses : {Self Base : Type 0} (base : Self → Base) (ports : Self → List Port) (rule : Base → List Port → List Port) → LawfulHost base ports rule → (n : ℕ) (host : Self)
+    → AllZip Sensed (ports host) (ticked n (rule (base host)) (ports host))
+ticked_senses base ports rule law zero host = unchanged_ports (ports host)
+ticked_senses base ports rule law (suc n) host =
+    let before = ticked n (rule (base host)) (ports host) in
+    let senses = ticked_senses base ports rule law n host in
+    senses_trans (ports host) before _ senses (tick_senses base ports rule law host before (same_sensed (ports host) before senses))
 
 -- a refused write changes nothing
 pub refused_written : (ports : List Port) (p v : ℕ) (e : Values) → writing ports p v ≡ Err e → written ports p v ≡ ports

@@ -8,7 +8,7 @@ use Rattle.host.specs.declared.axis.AxisPort.{AxisPort}
 use Rattle.host.specs.declared.axis.AxisPort.TheVariants.{Ordered, Ramp, Speed, Position}
 use Rattle.host.specs.Ports.{value_at, written}
 use Rattle.host.specs.Response.{ticked}
-use Rattle.host.specs.Lawful.{LawfulHost, sensing, sensing_lawful}
+use Rattle.host.specs.Lawful.{LawfulHost, stays, shows}
 
 -- the numbers of its ports
 abbrev pub port_number : AxisPort → ℕ
@@ -38,15 +38,11 @@ abbrev pub towards : ℕ → ℕ → ℕ → ℕ
 towards ordered ramp speed =
     cond (nat_le speed ordered) (speed + min ramp (ordered - speed)) (speed - min ramp (speed - ordered))
 
--- the ports of an axis after a tick: the speed moves, then the position gains the new speed, modulo 2 ^ 32
-abbrev pub motion : List Port → List Port
-motion ports =
+-- the tick rule: the speed moves, then the position gains the new speed, modulo 2 ^ 32
+abbrev pub axis_rule : List Port → List Port
+axis_rule ports =
     let speed : ℕ = towards (value_at ports 0) (value_at ports 1) (value_at ports 2) in
     ports_with (value_at ports 0) (value_at ports 1) speed ((value_at ports 3 + speed) % 2 ^ 32)
-
--- the tick rule: the values of the sense ports are those after the motion, and all else stays
-abbrev pub axis_rule : List Port → List Port
-axis_rule ports = sensing ports (motion ports)
 
 -- an axis with these ports that is ordered to 120 at a ramp of 50: its ports after one, two and three ticks
 pub record OrderedTo120 (ports : List Port) : Type 0 where
@@ -54,5 +50,5 @@ pub record OrderedTo120 (ports : List Port) : Type 0 where
   pub two : ticked 2 axis_rule (written ports 0 120) ≡ ports_with 120 50 100 150
   pub three : ticked 3 axis_rule (written ports 0 120) ≡ ports_with 120 50 120 270
 
-pub axis_lawful : LawfulHost {Base = Unit {0}} axis_ports (λ _. axis_rule)
-axis_lawful = record { few = λ _. lit≤ tt; senses = λ _ ports. sensing_lawful ports (motion ports) }
+pub axis_lawful : LawfulHost {Base = Unit {0}} (λ _. tt) axis_ports (λ _. axis_rule)
+axis_lawful = record { few = λ _. lit≤ tt; senses = λ _ _. (stays, (stays, (shows, (shows, tt)))) }

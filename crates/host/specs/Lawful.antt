@@ -1,8 +1,8 @@
 -- What each host proves of its ports and its tick rule.
-use Rattle.std.specs.Prelude.{◌≡◌, ◌≤◌, List, [], ◌∷◌, length, refl}
-use Rattle.std.proofs.Common.{ap}
+use Rattle.std.specs.Prelude.{◌≡◌, ◌≤◌, ℕ, suc, List, [], ◌∷◌, length, Option, refl}
+use Rattle.std.proofs.Common.{sym, ap}
 use Rattle.std.specs.List.{AllZip}
-use Rattle.host.specs.declared.port.Flag.TheVariants.{Order}
+use Rattle.host.specs.declared.port.Flag.TheVariants.{Order, Sense}
 use Rattle.host.specs.declared.port.Port.{Port}
 use Rattle.host.specs.Ports.{most_ports, with_value, by_flag}
 
@@ -11,31 +11,26 @@ pub record Sensed (p q : Port) : Type 0 where
   pub others : q ≡ with_value p q.value
   pub orders : p.flag ≡ Order → q.value ≡ p.value
 
--- a host has no more ports than the most, and a rule that keeps the number of ports and changes only values of sense ports
-pub record LawfulHost {Self Base : Type 0} (ports : Self → List Port) (rule : Base → List Port → List Port) : Type 0 where
+-- the ports, with these values in place of their own: port p has the value `values p`
+abbrev pub revalued : (ℕ → ℕ) → List Port → List Port
+revalued values [] = []
+revalued values (p ∷ ps) = with_value p (values 0) ∷ revalued (λ k. values (suc k)) ps
+
+-- A host has no more ports than the most. And whatever values its ports have, its rule keeps all else of them, their number
+-- too, and the values of order ports.
+pub record LawfulHost {Self Base : Type 0} (base : Self → Base) (ports : Self → List Port) (rule : Base → List Port → List Port) : Type 0 where
   pub few : (host : Self) → length (ports host) ≤ most_ports
-  pub senses : (base : Base) (ps : List Port) → AllZip Sensed ps (rule base ps)
+  pub senses : (host : Self) (values : ℕ → ℕ) → AllZip Sensed (revalued values (ports host)) (rule (base host) (revalued values (ports host)))
 
--- the ports ps, with the values of the sense ports as qs has them, as far as qs goes: a rule in this form has the law
-abbrev pub sensing : List Port → List Port → List Port
-sensing [] qs = []
-sensing (p ∷ ps) [] = p ∷ ps
-sensing (p ∷ ps) (q ∷ qs) = with_value p (by_flag p.flag p.value q.value) ∷ sensing ps qs
+-- The proof of a rule names each port: one that stays as it is, or a sense port that shows another value.
+pub stays : {p : Port} → Sensed p p
+stays = record { others = refl; orders = λ _. refl }
 
--- a port that stays as it is, and ports that do
-pub unchanged_port : (p : Port) → Sensed p p
-unchanged_port p = record { others = refl; orders = λ _. refl }
+pub shows : {v w low high : ℕ} {rest : Option ℕ}
+    → Sensed (record { value = v; low = low; high = high; flag = Sense; rest = rest }) (record { value = w; low = low; high = high; flag = Sense; rest = rest })
+shows {v} {w} = record { others = refl; orders = λ order. ap (λ flag. by_flag flag w v) (sym order) }
 
+-- ports that all stay
 pub unchanged_ports : (ps : List Port) → AllZip Sensed ps ps
 unchanged_ports [] = tt
-unchanged_ports (p ∷ ps) = (unchanged_port p, unchanged_ports ps)
-
--- a port with the value that sensing gives it
-sensed_port : (p q : Port) → Sensed p (with_value p (by_flag p.flag p.value q.value))
-sensed_port p q = record { others = refl; orders = λ order. ap (λ f. by_flag f p.value q.value) order }
-
--- a rule in the form of sensing changes only values of sense ports
-pub sensing_lawful : (ps qs : List Port) → AllZip Sensed ps (sensing ps qs)
-sensing_lawful [] qs = tt
-sensing_lawful (p ∷ ps) [] = unchanged_ports (p ∷ ps)
-sensing_lawful (p ∷ ps) (q ∷ qs) = (sensed_port p q, sensing_lawful ps qs)
+unchanged_ports (p ∷ ps) = (stays, unchanged_ports ps)

@@ -17,5 +17,5 @@ table_rule ports = ports
 abbrev pub table_base : TableHost → GName × List Port
 table_base table = (table.rows.ghost_name, drop most_ports table.rows.now)
 
-pub table_lawful : LawfulHost {Base = GName × List Port} table_ports (λ _. table_rule)
-table_lawful = record { few = λ _. simp length-take (omega arith); senses = λ _ ports. unchanged_ports ports }
+pub table_lawful : LawfulHost table_base table_ports (λ _. table_rule)
+table_lawful = record { few = λ _. simp length-take (omega arith); senses = λ _ _. unchanged_ports _ }

@@ -51,6 +51,7 @@ pub trait Host {
         ensures ports { ports self.new ≡ rested (ports self.old) }
         ensures base { base self.new ≡ base self.old };
 
-    // What each host proves: it has at most 256 ports, and its rule changes only values of sense ports.
-    ghost lawful: { LawfulHost ports rule };
+    // What each host proves: it has at most 256 ports, and its rule, from these ports with any values, changes only values of
+    // sense ports.
+    ghost lawful: { LawfulHost base ports rule };
 }

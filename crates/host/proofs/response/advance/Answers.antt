@@ -3,6 +3,5 @@ use Rattle.host.proofs.response.advance.Goals as goal
 
 pub returns-clause-senses : goal.returns-clause-senses
 returns-clause-senses g c =
-    let host = c.args.host.now in
-    let rule = g.H.Host.rule (g.H.Host.base host) in
-    rw c.loop-tick.invariant.ports (ticked_senses rule (g.met.H.Host.lawful.senses (g.H.Host.base host)) c.loop-tick._tick (g.H.Host.ports host))
+    let m = g.H.Host in
+    rw c.loop-tick.invariant.ports (ticked_senses m.base m.ports m.rule g.met.H.Host.lawful c.loop-tick._tick c.args.host.now)
