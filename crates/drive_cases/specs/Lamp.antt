@@ -4,7 +4,7 @@ use Rattle.std.proofs.Common.{lit≤}
 use Rattle.host.specs.declared.port.Flag.TheVariants.{Order, Sense}
 use Rattle.host.specs.declared.port.Port.{Port}
 use Rattle.host.specs.Ports.{value_at}
-use Rattle.host.specs.Lawful.{LawfulHost, sensing, sensing_lawful}
+use Rattle.host.specs.Lawful.{LawfulHost, stays, shows}
 use Rattle.drive_cases.specs.declared.lamp.LampHost.{LampHost}
 use Rattle.drive_cases.specs.declared.lamp.LampPort.{LampPort}
 use Rattle.drive_cases.specs.declared.lamp.LampPort.TheVariants.{Ordered, Light, Changes}
@@ -26,16 +26,12 @@ ports_with ordered light changes =
 abbrev pub lamp_ports : LampHost → List Port
 lamp_ports lamp = ports_with lamp.ordered lamp.light lamp.changes
 
--- the ports after a tick: the light is the ordered one, and one change more if it was another
-abbrev pub lit : List Port → List Port
-lit ports =
+-- the tick rule: the light is the ordered one, and there is one change more if it was another
+abbrev pub lamp_rule : List Port → List Port
+lamp_rule ports =
     let ordered : ℕ = value_at ports 0 in
     let changes : ℕ = value_at ports 2 in
     ports_with ordered ordered (cond (nat_eq (value_at ports 1) ordered) changes ((changes + 1) % 2 ^ 32))
 
--- the tick rule: the values of the sense ports are those of the lit lamp
-abbrev pub lamp_rule : List Port → List Port
-lamp_rule ports = sensing ports (lit ports)
-
-pub lamp_lawful : LawfulHost {Base = Unit {0}} lamp_ports (λ _. lamp_rule)
-lamp_lawful = record { few = λ _. lit≤ tt; senses = λ _ ports. sensing_lawful ports (lit ports) }
+pub lamp_lawful : LawfulHost {Base = Unit {0}} (λ _. tt) lamp_ports (λ _. lamp_rule)
+lamp_lawful = record { few = λ _. lit≤ tt; senses = λ _ _. (stays, (shows, (shows, tt))) }
