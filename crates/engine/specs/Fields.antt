@@ -6,6 +6,7 @@ use Rattle.refusal.specs.declared.Place.{Place}
 use Rattle.refusal.specs.Values.{Values}
 use Rattle.isa.specs.declared.row.Row.{Row}
 use Rattle.module.specs.declared.entry.Entry.{Entry}
+use Rattle.module.specs.declared.shape.ShapeRow.{ShapeRow}
 use Rattle.host.specs.declared.port.Port.{Port}
 use Rattle.host.specs.Ports.{by_flag}
 use Rattle.faults.specs.Causes.{Trip}
@@ -70,6 +71,10 @@ row_fields p = Four p.value ∷ Four p.low ∷ Four p.high ∷ One (by_flag p.fl
 abbrev pub said_fields : Option (Result (ℕ × Phase) Values) → List Field
 said_fields None = []
 said_fields (Some answer) = answer_fields answer
+
+-- a row of a sheet: the depth, and the mask
+abbrev pub shape_fields : ShapeRow → List Field
+shape_fields row = Two row.depth ∷ Four row.mask ∷ []
 
 -- an entry
 abbrev pub entry_fields : Entry → List Field

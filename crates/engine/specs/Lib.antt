@@ -1,4 +1,5 @@
 pub mod Fields
 pub mod Given
+pub mod Lent
 pub mod Parts
 pub mod Whole

@@ -1,9 +1,8 @@
 -- What is written of a module that is taken apart, and of one that is put together.
-use Rattle.std.specs.Prelude.{ℕ, ◌/◌, ◌%◌, List, [], ◌∷◌, ◌++◌, map, length, replicate, Ok, Err, Result, min}
+use Rattle.std.specs.Prelude.{ℕ, ◌/◌, ◌%◌, List, [], ◌∷◌, ◌++◌, map, length, Ok, Err, Result, min}
 use Rattle.std.specs.List.{flat_map}
 use Rattle.refusal.specs.Values.{Values}
 use Rattle.isa.specs.declared.row.Row.{Row}
-use Rattle.isa.specs.Form.{row}
 use Rattle.module.specs.declared.entry.Entry.{Entry}
 use Rattle.module.specs.Unpack.{unpacking, entries_after, rows_after, image}
 use Rattle.module.specs.Verdict.{checking}
@@ -12,17 +11,8 @@ use Rattle.engine.specs.declared.field.Field.{Field}
 use Rattle.engine.specs.declared.field.Field.TheVariants.{One, Four}
 use Rattle.engine.specs.Fields.{refused_fields, entry_fields, instruction_fields}
 use Rattle.engine.specs.Given.{entries_in, instructions_in}
+use Rattle.engine.specs.Lent.{lent, lent_byte, lent_entry, lent_row}
 use Rattle.engine.specs.Whole.{unless_refused, most_rows}
-
--- All bytes of what is lent are EE, so that it shows where nothing was written: a byte, an entry, and a row.
-abbrev pub lent_byte : ℕ
-lent_byte = 238
-
-abbrev pub lent_entry : Entry
-lent_entry = record { count = 61166; arguments = 238; results = 238 }
-
-abbrev pub lent_row : Row
-lent_row = row 238 238 238 238 4008636142
 
 -- the most entries and the most rows that are lent
 abbrev pub most_lent_entries : ℕ
@@ -50,7 +40,7 @@ lent_fields bs es rs = unless_refused (checking bs most_rows) (taken_apart_field
 -- what bench_unpack writes, of so many entries and rows that are lent
 abbrev pub unpacked_fields : List ℕ → ℕ → ℕ → List Field
 unpacked_fields bs es rs =
-    lent_fields bs (replicate (min es most_lent_entries) lent_entry) (replicate (min rs most_lent_rows) lent_row)
+    lent_fields bs (lent lent_entry most_lent_entries es) (lent lent_row most_lent_rows rs)
 
 -- what pack answered: the length, or the refusal
 abbrev pub length_fields : Result ℕ Values → List Field
@@ -82,4 +72,4 @@ most_output = 40000
 -- what bench_pack writes, by the bytes that it is given, of an output of so many bytes
 abbrev pub packed_fields : List ℕ → List ℕ → List ℕ → ℕ → List Field
 packed_fields entries rows image size =
-    put_together_fields (given_entries entries) (given_instructions rows) image (replicate (min size most_output) lent_byte)
+    put_together_fields (given_entries entries) (given_instructions rows) image (lent lent_byte most_output size)

@@ -1,5 +1,5 @@
 -- The whole of what is written, and what becomes of the place that it is written to.
-use Rattle.std.specs.Prelude.{ℕ, ◌/◌, ◌%◌, List, [], ◌∷◌, ◌++◌, map, length, take, drop, replicate, Ok, Err, Result, min, cond, nat_lt}
+use Rattle.std.specs.Prelude.{ℕ, ◌/◌, ◌%◌, List, [], ◌∷◌, ◌++◌, map, length, take, drop, Ok, Err, Result, min, cond, nat_lt}
 use Rattle.std.specs.List.{flat_map}
 use Rattle.std.specs.Option.{option_map, unwrap_or}
 use Rattle.refusal.specs.Values.{Values}
@@ -10,7 +10,7 @@ use Rattle.host.specs.Table.{table_rule}
 use Rattle.module.specs.declared.shape.ShapeRow.{ShapeRow}
 use Rattle.module.specs.declared.opened.Counts.{Counts}
 use Rattle.module.specs.Layout.{counts}
-use Rattle.module.specs.Verdict.{checking, blank, sheet_after}
+use Rattle.module.specs.Verdict.{checking, sheet_after}
 use Rattle.faults.specs.Faults.{FaultValues}
 use Rattle.machine.specs.Level.{Level, value_of}
 use Rattle.machine.specs.Shown.{running_in}
@@ -22,7 +22,8 @@ use Rattle.drive.specs.Questions.{asked, place_in, depth_in}
 use Rattle.engine.specs.declared.field.Field.{Field}
 use Rattle.engine.specs.declared.field.Field.TheVariants.{One, Two, Four}
 use Rattle.engine.specs.Given.{calls_in, rows_in}
-use Rattle.engine.specs.Fields.{fields_bytes, refused_fields, state_fields, answer_fields, place_fields, fault_fields, row_fields, room}
+use Rattle.engine.specs.Fields.{fields_bytes, refused_fields, state_fields, answer_fields, place_fields, fault_fields, row_fields, shape_fields, room}
+use Rattle.engine.specs.Lent.{lent, lent_shape}
 
 -- the values of the running routine's registers
 abbrev pub registers_in : List Level → List ℕ
@@ -57,9 +58,13 @@ world_fields w faults =
     ++ (map One (take memory_size w.memory)
     ++ faults_fields faults)))
 
+-- how many calls were made, and what each of them answered
+abbrev pub answers_fields : List (Result (ℕ × Phase) Values) → List Field
+answers_fields answers = Four (length answers % 4294967296) ∷ flat_map answer_fields answers
+
 -- answers, and then the world, the faults and the ports of a log
 abbrev pub log_fields : List (Result (ℕ × Phase) Values) → Log → List Field
-log_fields answers l = flat_map answer_fields answers ++ (world_fields l.world (fault_list l.entries) ++ port_fields l.world.ports)
+log_fields answers l = answers_fields answers ++ (world_fields l.world (fault_list l.entries) ++ port_fields l.world.ports)
 
 -- of calls to a new drive of the module bs, over a host with this tick rule and these first ports
 abbrev pub run_fields : List ℕ → TickRule → List Port → List Call → List Field
@@ -70,29 +75,25 @@ abbrev pub unless_refused : Result (Unit {0}) Values → List Field → List Fie
 unless_refused (Ok u) fields = One 0 ∷ fields
 unless_refused (Err e) fields = refused_fields e
 
--- the lowest byte of the depth, which is 32 at most, and the mask
-abbrev pub shape_fields : ShapeRow → List Field
-shape_fields row = One (row.depth % 256) ∷ Four row.mask ∷ []
-
--- the counts of a module, and the rows of a sheet for its instructions
-abbrev pub shapes_fields : Counts → List ShapeRow → List Field
-shapes_fields counts sheet =
-    Four (counts.routines % 4294967296)
-    ∷ Four (counts.total % 4294967296)
-    ∷ Four (counts.image % 4294967296)
-    ∷ flat_map shape_fields (take counts.total sheet)
+-- N, T and D of a module
+abbrev pub counts_fields : Counts → List Field
+counts_fields c = Four (c.routines % 4294967296) ∷ Four (c.total % 4294967296) ∷ Four (c.image % 4294967296) ∷ []
 
 -- the most rows of a sheet
 abbrev pub most_rows : ℕ
 most_rows = 4096
 
--- what a check of bs writes, over this sheet
-abbrev pub sheet_fields : List ℕ → List ShapeRow → List Field
-sheet_fields bs sheet = unless_refused (checking bs (length sheet)) (shapes_fields (counts bs) (sheet_after bs sheet))
+-- what check answers of bs over so many rows: N, T and D, or the refusal
+abbrev pub verdict_fields : List ℕ → ℕ → List Field
+verdict_fields bs rows = unless_refused (checking bs rows) (counts_fields (counts bs))
 
--- what bench_check writes: over a new sheet of so many rows, at most 4,096
+-- of bs that is checked over this sheet: the answer, and all rows as they are then
+abbrev pub sheet_fields : List ℕ → List ShapeRow → List Field
+sheet_fields bs sheet = verdict_fields bs (length sheet) ++ flat_map shape_fields (sheet_after bs sheet)
+
+-- what bench_check writes, of so many rows that are lent
 abbrev pub checked_fields : List ℕ → ℕ → List Field
-checked_fields bs rows = sheet_fields bs (take (min rows most_rows) (replicate most_rows blank))
+checked_fields bs rows = sheet_fields bs (lent lent_shape most_rows rows)
 
 -- the most calls that are read
 abbrev pub most_calls : ℕ

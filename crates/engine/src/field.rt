@@ -20,7 +20,7 @@ pub(crate) enum Field {
 }
 
 // The first so many items, or all.
-pub(crate) fn first<T>(items: &[T], count: usize) -> &[T]
+fn first<T>(items: &[T], count: usize) -> &[T]
     ensures { result.now ≡ take count items.now }
 {
     if items.len() <= count {

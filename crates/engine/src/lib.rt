@@ -11,10 +11,8 @@ ghost use Rattle.engine.specs.Whole.{checked_fields, ran_fields, fitting, laid};
 use drive::call::{Call, Turn};
 use field::Text;
 use given::{CALL, ENTRY, INSTRUCTION, fill_entries, fill_instructions, fill_turns};
-use isa::row::Row;
-use module::entry::Entry;
+use lent::{LENT_BYTE, LENT_ENTRY, LENT_ROW, LENT_SHAPE};
 use module::limits;
-use module::shape::ShapeRow;
 use modules::{add_check, add_host_run};
 use packing::parts::Parts;
 use parts::{add_pack, add_unpack};
@@ -22,6 +20,7 @@ use parts::{add_pack, add_unpack};
 mod drives;
 mod field;
 mod given;
+mod lent;
 mod modules;
 mod parts;
 mod text;
@@ -41,23 +40,6 @@ const INSTRUCTIONS: usize = 8_192;
 
 const OUTPUT: usize = 40_000;
 
-// What is lent to unpack and pack: all its bytes are EE, so that it shows where nothing was written.
-const LENT_BYTE: u8 = 0xEE;
-
-const LENT_ENTRY: Entry = Entry {
-    count: 0xEEEE,
-    arguments: LENT_BYTE,
-    results: LENT_BYTE,
-};
-
-const LENT_ROW: Row = Row {
-    op: LENT_BYTE,
-    a: LENT_BYTE,
-    b: LENT_BYTE,
-    c: LENT_BYTE,
-    n: 0xEEEE_EEEE,
-};
-
 // Writes as much of a text as fits, and says how much that is.
 fn give(text: &Text, out: &mut [u8]) -> usize
     ensures length { result ≡ length (take (length out.old) text.now.items) }
@@ -69,22 +51,22 @@ fn give(text: &Text, out: &mut [u8]) -> usize
     count
 }
 
-/// Checks a module over a sheet of so many rows, but not more than 4,096, and writes what check answers and leaves. It says how
-/// much it wrote: as much as fits, and no more than 40,960 bytes.
+/// Checks a module over a sheet of so many rows, but not more than 4,096, and writes what check answers, and all rows as it
+/// leaves them. It says how much it wrote: as much as fits, and no more than 40,960 bytes.
 #[unsafe(no_mangle)]
 pub extern "C" fn bench_check(bytes: &[u8], rows: usize, out: &mut [u8]) -> usize
     ensures length { result ≡ length (fitting out.old (checked_fields bytes.now rows)) }
     ensures out { out.new ≡ laid out.old (checked_fields bytes.now rows) }
 {
-    let mut sheet = [ShapeRow::BLANK; limits::INSTRUCTIONS];
+    let mut sheet = [LENT_SHAPE; limits::INSTRUCTIONS];
     let mut text = Text::new();
     let count = rows.min(limits::INSTRUCTIONS);
     add_check(&mut text, bytes, &mut sheet[..count]);
     give(&text, out)
 }
 
-/// Makes the calls, 256 at most, to a new drive of a module over an axis or a table, of 512 rows at most, and writes what
-/// comes of them, in the same way.
+/// Makes the calls, 256 at most, to a new drive of a module over an axis or a table, of 512 rows at most, and writes how many
+/// it made and what comes of them, in the same way.
 #[unsafe(no_mangle)]
 pub extern "C" fn bench_run(bytes: &[u8], host: &[u8], calls: &[u8], out: &mut [u8]) -> usize
     ensures length { result ≡ length (fitting out.old (ran_fields bytes.now host.now calls.now)) }

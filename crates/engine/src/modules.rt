@@ -1,14 +1,13 @@
 // What comes of a module: of its check, and of calls to a drive of it.
 ghost use Rattle.std.specs.Prelude.{◌≡◌, ◌<◌, length, map, drop, IfOk};
 ghost use Rattle.module.specs.Told.{bytes_of, verdict_of};
-ghost use Rattle.module.specs.Layout.{counts};
 ghost use Rattle.module.specs.Verdict.{checking, sheet_after};
 ghost use Rattle.drive.specs.View.{call_of};
 ghost use Rattle.engine.specs.Fields.{fields_bytes, Added};
-ghost use Rattle.engine.specs.Whole.{shapes_fields, sheet_fields, axis_fields, table_fields, host_fields};
+ghost use Rattle.engine.specs.Whole.{counts_fields, verdict_fields, sheet_fields, axis_fields, table_fields, host_fields};
 
 use crate::drives::add_run;
-use crate::field::{Field, Text, add, add_all, first};
+use crate::field::{Field, Text, add, add_all};
 use crate::given::{ROW, fill_rows};
 use crate::text::{add_refusal, add_rows, add_shapes};
 use drive::call::Turn;
@@ -18,6 +17,7 @@ use host::table::TableHost;
 use module::checked::Checked;
 use module::limits;
 use module::open::open;
+use module::opened::Counts;
 use module::shape::ShapeRow;
 use refusal::Refusal;
 
@@ -41,11 +41,10 @@ pub(crate) fn examine<'a>(bytes: &'a [u8], sheet: &mut [ShapeRow]) -> Result<Che
     Ok(open(bytes)?.check(sheet)?)
 }
 
-// The counts, and the rows of its instructions.
-fn add_module(text: &mut Text, checked: &Checked<'_>, sheet: &[ShapeRow])
-    ensures { Added text.old.items (fields_bytes (shapes_fields (counts (bytes_of checked.now.opened)) sheet.now)) text.new.items }
+// N, T and D.
+fn add_counts(text: &mut Text, counts: Counts)
+    ensures { Added text.old.items (fields_bytes (counts_fields counts)) text.new.items }
 {
-    let counts = checked.counts();
     add_all(
         text,
         &[
@@ -54,20 +53,28 @@ fn add_module(text: &mut Text, checked: &Checked<'_>, sheet: &[ShapeRow])
             Field::Four((counts.image % 4_294_967_296) as u32),
         ],
     );
-    add_shapes(text, first(sheet, counts.total));
 }
 
-// Checks a module over a sheet.
-pub(crate) fn add_check(text: &mut Text, bytes: &[u8], sheet: &mut [ShapeRow])
-    ensures { Added text.old.items (fields_bytes (sheet_fields bytes.now sheet.old)) text.new.items }
+// Checks a module over a sheet, and adds the answer.
+fn add_verdict(text: &mut Text, bytes: &[u8], sheet: &mut [ShapeRow])
+    ensures text { Added text.old.items (fields_bytes (verdict_fields bytes.now (length sheet.old))) text.new.items }
+    ensures sheet { sheet.new ≡ sheet_after bytes.now sheet.old }
 {
     match examine(bytes, sheet) {
         Ok(checked) => {
             add(text, Field::One(0));
-            add_module(text, &checked, sheet);
+            add_counts(text, checked.counts());
         }
         Err(refusal) => add_refusal(text, refusal),
     }
+}
+
+// Checks a module over a sheet, and adds the answer and all rows as they are then.
+pub(crate) fn add_check(text: &mut Text, bytes: &[u8], sheet: &mut [ShapeRow])
+    ensures { Added text.old.items (fields_bytes (sheet_fields bytes.now sheet.old)) text.new.items }
+{
+    add_verdict(text, bytes, sheet);
+    add_shapes(text, sheet);
 }
 
 // Makes calls over a new axis.

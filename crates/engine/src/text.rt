@@ -1,13 +1,13 @@
 // What is written of each thing, number by number.
-ghost use Rattle.std.specs.Prelude.{◌≡◌, map};
+ghost use Rattle.std.specs.Prelude.{◌≡◌, ◌%◌, ◌∷◌, length, map};
 ghost use Rattle.std.specs.List.{flat_map};
 ghost use Rattle.refusal.specs.Values.{values_of, told};
 ghost use Rattle.faults.specs.Causes.{trip_of};
 ghost use Rattle.faults.specs.Faults.{values_of as fault_values};
 ghost use Rattle.machine.specs.View.{phase_of};
 ghost use Rattle.drive.specs.View.{by_values, said_of};
-ghost use Rattle.engine.specs.Fields.{fields_bytes, refusal_fields, refused_fields, trip_fields, state_fields, answer_fields, place_fields, said_fields, fault_fields, row_fields, entry_fields, instruction_fields, Added};
-ghost use Rattle.engine.specs.Whole.{shape_fields};
+ghost use Rattle.engine.specs.declared.field.Field.TheVariants.{Four};
+ghost use Rattle.engine.specs.Fields.{fields_bytes, refusal_fields, refused_fields, trip_fields, state_fields, answer_fields, place_fields, said_fields, fault_fields, row_fields, shape_fields, entry_fields, instruction_fields, Added};
 
 use crate::field::{Field, Text, add, add_all};
 use drive::call::{Answer, Turn};
@@ -77,10 +77,11 @@ fn add_answer(text: &mut Text, answer: Answer)
     }
 }
 
-// The answers that were filled in.
+// How many calls there are, and the answers that were filled in.
 pub(crate) fn add_answers(text: &mut Text, turns: &[Turn])
-    ensures { Added text.old.items (fields_bytes (flat_map said_fields (map said_of turns.now))) text.new.items }
+    ensures { Added text.old.items (fields_bytes (Four (length turns.now % 4294967296) ∷ flat_map said_fields (map said_of turns.now))) text.new.items }
 {
+    add(text, Field::Four((turns.len() % 4_294_967_296) as u32));
     for turn in turns {
         if let Some(answer) = turn.answer {
             add_answer(text, answer);
@@ -141,7 +142,7 @@ pub(crate) fn add_rows(text: &mut Text, rows: &[Port])
 fn shape_fields(row: ShapeRow) -> [Field; 2]
     ensures { result ≡ shape_fields row }
 {
-    [Field::One((row.depth % 256) as u8), Field::Four(row.mask)]
+    [Field::Two(row.depth), Field::Four(row.mask)]
 }
 
 // Rows of a sheet.

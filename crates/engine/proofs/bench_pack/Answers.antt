@@ -1,10 +1,11 @@
 use Rattle.std.proofs.Common.{◌≡◌, List, ℕ, ◌++◌, ◌/◌, length, take, drop, replicate, min, arith, length-take, ap, ◌∙◌}
-use Rattle.std.proofs.lemmas.List.{take-replicate}
 use Rattle.engine.specs.Fields.{fields_bytes}
 use Rattle.engine.specs.Given.{entries_in, instructions_in}
-use Rattle.engine.specs.Parts.{lent_byte, lent_entry, lent_row, given_entries, given_instructions, put_together_fields, packed_fields}
+use Rattle.engine.specs.Lent.{lent_byte, lent_entry, lent_row}
+use Rattle.engine.specs.Parts.{given_entries, given_instructions, put_together_fields, packed_fields}
 use Rattle.engine.specs.Whole.{fitting}
 use Rattle.engine.proofs.Adding.{same, whole_text}
+use Rattle.engine.proofs.Lending.{first_lent}
 use Rattle.engine.proofs.bench_pack.Goals as goal
 
 pub returns-clause-length : goal.returns-clause-length
@@ -21,9 +22,8 @@ returns-clause-length c =
     = omega (arith, c.min-total.ensures, length-take c.min-total.result (replicate 8192 lent_row)) in
     let entries : c.fill_entries.new.entries ≡ given_entries es = c.fill_entries.ensures ∙ ap (entries_in es) count in
     let rows : c.fill_instructions.new.rows ≡ given_instructions rs = c.fill_instructions.ensures ∙ ap (instructions_in rs) total in
-    let lent : take c.min-length.result (replicate 40000 lent_byte) ≡ replicate (min size 40000) lent_byte
-    = ap (λ n. take n (replicate 40000 lent_byte)) c.min-length.ensures ∙ take-replicate (min size 40000) 40000 lent_byte (omega arith) in
-    let added = same _ _ whole _ c.add_pack.ensures (λ i. fields_bytes (put_together_fields (entries i) (rows i) im (lent i))) in
+    let output = first_lent lent_byte 40000 size c.min-length.result c.min-length.ensures in
+    let added = same _ _ whole _ c.add_pack.ensures (λ i. fields_bytes (put_together_fields (entries i) (rows i) im (output i))) in
     let is = whole_text whole c.new-text.result.items c.add_pack.new.text.items added c.new-text.ensures c.give.ensures.fits in
     c.give.ensures.length ∙ ap (λ (t : List ℕ). length (take (length out) t)) is
 
@@ -41,9 +41,8 @@ returns-clause-out c =
     = omega (arith, c.min-total.ensures, length-take c.min-total.result (replicate 8192 lent_row)) in
     let entries : c.fill_entries.new.entries ≡ given_entries es = c.fill_entries.ensures ∙ ap (entries_in es) count in
     let rows : c.fill_instructions.new.rows ≡ given_instructions rs = c.fill_instructions.ensures ∙ ap (instructions_in rs) total in
-    let lent : take c.min-length.result (replicate 40000 lent_byte) ≡ replicate (min size 40000) lent_byte
-    = ap (λ n. take n (replicate 40000 lent_byte)) c.min-length.ensures ∙ take-replicate (min size 40000) 40000 lent_byte (omega arith) in
-    let added = same _ _ whole _ c.add_pack.ensures (λ i. fields_bytes (put_together_fields (entries i) (rows i) im (lent i))) in
+    let output = first_lent lent_byte 40000 size c.min-length.result c.min-length.ensures in
+    let added = same _ _ whole _ c.add_pack.ensures (λ i. fields_bytes (put_together_fields (entries i) (rows i) im (output i))) in
     let is = whole_text whole c.new-text.result.items c.add_pack.new.text.items added c.new-text.ensures c.give.ensures.fits in
     let written : c.give.result ≡ length (fitting out (packed_fields es rs im size)) = c.give.ensures.length ∙ ap (λ (t : List ℕ). length (take (length out) t)) is in
     c.give.ensures.out ∙ (λ i. take (length out) (is i) ++ drop (written i) out)

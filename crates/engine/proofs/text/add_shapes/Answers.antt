@@ -4,8 +4,7 @@ use Rattle.std.proofs.lemmas.List.{drop_more, drop_all}
 use Rattle.std.proofs.lemmas.Grind.{flat_map-append}
 use Rattle.module.specs.declared.shape.ShapeRow.{ShapeRow}
 use Rattle.module.specs.Verdict.{blank}
-use Rattle.engine.specs.Fields.{field_bytes, fields_bytes}
-use Rattle.engine.specs.Whole.{shape_fields}
+use Rattle.engine.specs.Fields.{field_bytes, fields_bytes, shape_fields}
 use Rattle.engine.proofs.Adding.{more, done, same}
 use Rattle.engine.proofs.text.add_shapes.Goals as goal
 

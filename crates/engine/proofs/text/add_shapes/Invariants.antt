@@ -1,7 +1,6 @@
 use Rattle.std.proofs.Common.{drop}
 use Rattle.std.specs.List.{flat_map}
-use Rattle.engine.specs.Fields.{fields_bytes}
-use Rattle.engine.specs.Whole.{shape_fields}
+use Rattle.engine.specs.Fields.{fields_bytes, shape_fields}
 use Rattle.engine.proofs.Adding.{Left}
 use Rattle.engine.proofs.text.add_shapes.Given as goal
 
