@@ -1,5 +1,5 @@
 -- What bench prints of a module, from the log of its run.
-use Rattle.std.specs.Prelude.{ℕ, List, [], ◌∷◌, ◌++◌, Ok, Err, Result}
+use Rattle.std.specs.Prelude.{◌≡◌, ℕ, List, [], ◌∷◌, ◌++◌, Ok, Err, Result}
 use Rattle.std.specs.List.{flat_map}
 use Rattle.refusal.specs.Text.{refused}
 use Rattle.refusal.specs.Values.{Values}
@@ -33,3 +33,7 @@ module_text bs rows rule first calls = or_refusal (checking bs rows) (run_text b
 -- what bench prints: a grant of 10,000 over a new axis, with as many rows as the longest module has instructions
 abbrev pub printed : List ℕ → List ℕ
 printed bs = module_text bs 4096 axis_rule new_axis (Grant 10000 ∷ [])
+
+-- These bytes decide what is printed: however an input goes on after them, it is the same.
+abbrev pub DecidedBy : List ℕ → Type 0
+DecidedBy bs = (more : List ℕ) → printed (bs ++ more) ≡ printed bs

@@ -2,10 +2,10 @@
 
 #![tactic(auto)]
 
-ghost use Rattle.std.specs.Prelude.{◌≡◌, [], ◌∷◌, ◌++◌, length, IfOk, string_bytes};
+ghost use Rattle.std.specs.Prelude.{◌≡◌, ◌≤◌, [], ◌∷◌, ◌++◌, length, IfOk, IfSome, string_bytes};
 ghost use Rattle.module.specs.Told.{bytes_of, verdict_of};
 ghost use Rattle.module.specs.Verdict.{checking, sheet_after};
-ghost use Rattle.bench.specs.Measured.{run_text, module_text, printed};
+ghost use Rattle.bench.specs.Measured.{run_text, module_text, printed, DecidedBy};
 
 use drive::call::{Call, Turn};
 use drive::run::run;
@@ -18,8 +18,10 @@ use module::open::open;
 use module::shape::ShapeRow;
 use refusal::Refusal;
 use std::alloc::{AllocError, Global};
+use std::env::{Env, FillError};
 use std::io;
 use std::io::Read;
+use std::process::ExitCode;
 
 mod lines;
 
@@ -70,9 +72,10 @@ fn report<H: Host>(
     Ok(text)
 }
 
-// What bench prints of a module.
+// What bench prints of what it read, which decides where it is 37,381 bytes.
 fn bench(heap: Global, bytes: &[u8]) -> Result<String, AllocError>
-    ensures { IfOk result (λ s. string_bytes s ≡ printed bytes.now) }
+    ensures text { IfOk result (λ s. string_bytes s ≡ printed bytes.now) }
+    ensures decided { 37381 ≤ length bytes.now → DecidedBy bytes.now }
 {
     let mut sheet = vec![in heap; ShapeRow::BLANK; limits::INSTRUCTIONS]?;
     let mut axis = AxisHost::new();
@@ -85,11 +88,29 @@ fn bench(heap: Global, bytes: &[u8]) -> Result<String, AllocError>
     )
 }
 
-fn main(rt: HostRuntime) -> io::Result<()> {
-    let heap = rt.alloc();
+// Reads an input as far as it decides what is printed of it.
+fn read_deciding<R: Read + Drop>(heap: Global, input: R) -> io::Result<Vec<u8>>
+    ensures { IfOk result (λ bytes. IfSome (R.remaining input) (λ all. printed bytes.items ≡ printed all)) }
+{
     let mut bytes = Vec::new(heap);
     let most = limits::deciding_length() as u64;
-    rt.stdin().take(most).read_to_end(&mut bytes)?;
+    input.take(most).read_to_end(&mut bytes)?;
+    Ok(bytes)
+}
+
+// Whether there is an argument besides the program's name.
+fn has_argument<R: Env>(rt: &R) -> bool {
+    !matches!(rt.arg(1, &mut []), Err(FillError::NotPresent))
+}
+
+fn main(rt: HostRuntime) -> io::Result<ExitCode> {
+    if has_argument(&rt) {
+        eprintln!(rt; "usage: bench < MODULE")?;
+        return Ok(ExitCode::FAILURE);
+    }
+    let heap = rt.alloc();
+    let bytes = read_deciding(heap, rt.stdin())?;
     let text = bench(heap, bytes.as_slice())?;
-    print!(rt; "{text}")
+    print!(rt; "{text}")?;
+    Ok(ExitCode::SUCCESS)
 }

@@ -49,7 +49,7 @@ const CALLS: [Call; 4] = [
 fn examine<'a>(bytes: &'a [u8], sheet: &mut [ShapeRow]) -> Result<Checked<'a>, Refusal>
     ensures { verdict_of result ≡ checking bytes.now (length sheet.old) }
 {
-    open(bytes)?.into_checked(sheet)
+    Ok(open(bytes)?.check(sheet)?)
 }
 
 fn print_ports<H: Host>(rt: &impl Print, host: &H) -> io::Result<()> {
