@@ -1,4 +1,6 @@
 // What is lent: all its bytes are EE, so that it shows where nothing was written.
+ghost use Rattle.std.specs.Prelude.{◌≡◌, take};
+
 use isa::row::Row;
 use module::entry::Entry;
 use module::shape::ShapeRow;
@@ -23,3 +25,13 @@ pub(crate) const LENT_ROW: Row = Row {
     c: LENT_BYTE,
     n: 0xEEEE_EEEE,
 };
+
+// Lends the first so many items of a room, or all.
+pub(crate) fn lend<T>(room: &mut [T], count: usize) -> &mut [T]
+    ensures { result.now ≡ take count room.old }
+{
+    if room.len() <= count {
+        return room;
+    }
+    &mut room[..count]
+}

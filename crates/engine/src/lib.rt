@@ -11,7 +11,7 @@ ghost use Rattle.engine.specs.Whole.{checked_fields, ran_fields, fitting, laid};
 use drive::call::{Call, Turn};
 use field::Text;
 use given::{CALL, ENTRY, INSTRUCTION, fill_entries, fill_instructions, fill_turns};
-use lent::{LENT_BYTE, LENT_ENTRY, LENT_ROW, LENT_SHAPE};
+use lent::{LENT_BYTE, LENT_ENTRY, LENT_ROW, LENT_SHAPE, lend};
 use module::limits;
 use modules::{add_check, add_host_run};
 use packing::parts::Parts;
@@ -60,8 +60,7 @@ pub extern "C" fn bench_check(bytes: &[u8], rows: usize, out: &mut [u8]) -> usiz
 {
     let mut sheet = [LENT_SHAPE; limits::INSTRUCTIONS];
     let mut text = Text::new();
-    let count = rows.min(limits::INSTRUCTIONS);
-    add_check(&mut text, bytes, &mut sheet[..count]);
+    add_check(&mut text, bytes, lend(&mut sheet, rows));
     give(&text, out)
 }
 
@@ -89,15 +88,13 @@ pub extern "C" fn bench_unpack(bytes: &[u8], entries: usize, rows: usize, out: &
     ensures out { out.new ≡ laid out.old (unpacked_fields bytes.now entries rows) }
 {
     let mut lent_entries = [LENT_ENTRY; limits::ROUTINES];
-    let count = entries.min(limits::ROUTINES);
     let mut lent_rows = [LENT_ROW; limits::INSTRUCTIONS];
-    let total = rows.min(limits::INSTRUCTIONS);
     let mut text = Text::new();
     add_unpack(
         &mut text,
         bytes,
-        &mut lent_entries[..count],
-        &mut lent_rows[..total],
+        lend(&mut lent_entries, entries),
+        lend(&mut lent_rows, rows),
     );
     give(&text, out)
 }
@@ -129,8 +126,7 @@ pub extern "C" fn bench_pack(
         image,
     };
     let mut output = [LENT_BYTE; OUTPUT];
-    let length = size.min(OUTPUT);
     let mut text = Text::new();
-    add_pack(&mut text, parts, &mut output[..length]);
+    add_pack(&mut text, parts, lend(&mut output, size));
     give(&text, out)
 }

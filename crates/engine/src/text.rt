@@ -77,11 +77,17 @@ fn add_answer(text: &mut Text, answer: Answer)
     }
 }
 
+fn count_field(turns: &[Turn]) -> Field
+    ensures { result ≡ Four (length turns.now % 4294967296) }
+{
+    Field::Four((turns.len() % 4_294_967_296) as u32)
+}
+
 // How many calls there are, and the answers that were filled in.
 pub(crate) fn add_answers(text: &mut Text, turns: &[Turn])
     ensures { Added text.old.items (fields_bytes (Four (length turns.now % 4294967296) ∷ flat_map said_fields (map said_of turns.now))) text.new.items }
 {
-    add(text, Field::Four((turns.len() % 4_294_967_296) as u32));
+    add(text, count_field(turns));
     for turn in turns {
         if let Some(answer) = turn.answer {
             add_answer(text, answer);

@@ -12,7 +12,7 @@ returns-clause-length c =
     let bs = c.args.bytes.now in
     let out = c.args.out.now in
     let whole = fields_bytes (checked_fields bs c.args.rows) in
-    let sheet = first_lent lent_shape 4096 c.args.rows c.min-count.result c.min-count.ensures in
+    let sheet = c.lend.ensures ∙ first_lent lent_shape 4096 c.args.rows in
     let added = same _ _ whole _ c.add_check.ensures (ap (λ (sheet : List ShapeRow). fields_bytes (sheet_fields bs sheet)) sheet) in
     let is = whole_text whole c.new-text.result.items c.add_check.new.text.items added c.new-text.ensures c.give.ensures.fits in
     c.give.ensures.length ∙ ap (λ (t : List ℕ). length (take (length out) t)) is
@@ -22,7 +22,7 @@ returns-clause-out c =
     let bs = c.args.bytes.now in
     let out = c.args.out.now in
     let whole = fields_bytes (checked_fields bs c.args.rows) in
-    let sheet = first_lent lent_shape 4096 c.args.rows c.min-count.result c.min-count.ensures in
+    let sheet = c.lend.ensures ∙ first_lent lent_shape 4096 c.args.rows in
     let added = same _ _ whole _ c.add_check.ensures (ap (λ (sheet : List ShapeRow). fields_bytes (sheet_fields bs sheet)) sheet) in
     let is = whole_text whole c.new-text.result.items c.add_check.new.text.items added c.new-text.ensures c.give.ensures.fits in
     let count : c.give.result ≡ length (fitting out (checked_fields bs c.args.rows)) = c.give.ensures.length ∙ ap (λ (t : List ℕ). length (take (length out) t)) is in

@@ -22,7 +22,7 @@ returns-clause-length c =
     = omega (arith, c.min-total.ensures, length-take c.min-total.result (replicate 8192 lent_row)) in
     let entries : c.fill_entries.new.entries ≡ given_entries es = c.fill_entries.ensures ∙ ap (entries_in es) count in
     let rows : c.fill_instructions.new.rows ≡ given_instructions rs = c.fill_instructions.ensures ∙ ap (instructions_in rs) total in
-    let output = first_lent lent_byte 40000 size c.min-length.result c.min-length.ensures in
+    let output = c.lend.ensures ∙ first_lent lent_byte 40000 size in
     let added = same _ _ whole _ c.add_pack.ensures (λ i. fields_bytes (put_together_fields (entries i) (rows i) im (output i))) in
     let is = whole_text whole c.new-text.result.items c.add_pack.new.text.items added c.new-text.ensures c.give.ensures.fits in
     c.give.ensures.length ∙ ap (λ (t : List ℕ). length (take (length out) t)) is
@@ -41,7 +41,7 @@ returns-clause-out c =
     = omega (arith, c.min-total.ensures, length-take c.min-total.result (replicate 8192 lent_row)) in
     let entries : c.fill_entries.new.entries ≡ given_entries es = c.fill_entries.ensures ∙ ap (entries_in es) count in
     let rows : c.fill_instructions.new.rows ≡ given_instructions rs = c.fill_instructions.ensures ∙ ap (instructions_in rs) total in
-    let output = first_lent lent_byte 40000 size c.min-length.result c.min-length.ensures in
+    let output = c.lend.ensures ∙ first_lent lent_byte 40000 size in
     let added = same _ _ whole _ c.add_pack.ensures (λ i. fields_bytes (put_together_fields (entries i) (rows i) im (output i))) in
     let is = whole_text whole c.new-text.result.items c.add_pack.new.text.items added c.new-text.ensures c.give.ensures.fits in
     let written : c.give.result ≡ length (fitting out (packed_fields es rs im size)) = c.give.ensures.length ∙ ap (λ (t : List ℕ). length (take (length out) t)) is in
