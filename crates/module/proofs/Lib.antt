@@ -11,4 +11,3 @@ pub mod Passes
 pub mod ShapeRows
 pub mod Spans
 pub mod Turns
-pub mod Unpacks

@@ -1,5 +1,6 @@
 pub mod Accepted
 pub mod Bytes
+pub mod Contents
 pub mod First
 pub mod Kept
 pub mod Laid
@@ -9,5 +10,4 @@ pub mod Ready
 pub mod Rules
 pub mod Shape
 pub mod Told
-pub mod Unpack
 pub mod Verdict

@@ -19,4 +19,3 @@ mod rule;
 mod rules;
 pub mod shape;
 pub mod site;
-mod unpack;

@@ -1,8 +1,7 @@
 -- A checked module, taken apart, passes the tests of pack.
-use Rattle.std.proofs.Common.{◌≡◌, ℕ, zero, suc, ◌+◌, ◌-◌, ◌*◌, ◌<◌, ◌≤◌, Bool, true, cond, eqb, leb, List, ◌++◌, length, drop, is_ok, None, Ok, sym, refl, ap, ◌∙◌, arith}
+use Rattle.std.proofs.Common.{◌≡◌, ℕ, zero, suc, ◌+◌, ◌-◌, ◌*◌, ◌<◌, ◌≤◌, Bool, true, eqb, leb, List, length, None, Ok, sym, refl, ap, ◌∙◌, arith}
 use Rattle.std.proofs.lemmas.Bool.{eq-eqb}
 use Rattle.std.proofs.lemmas.Bool.Decides.{nat_tests}
-use Rattle.std.proofs.lemmas.Grind.{common_steps}
 use Rattle.refusal.specs.Values.{author, caller}
 use Rattle.isa.specs.Form.{well_formed}
 use Rattle.module.specs.Bytes.{Octets}
@@ -10,10 +9,10 @@ use Rattle.module.specs.First.{first_failing, first_place, or_later}
 use Rattle.module.specs.Kept.{KeptEverywhere}
 use Rattle.module.specs.Laid.{Laid}
 use Rattle.module.specs.Layout as layout
-use Rattle.module.specs.Unpack.{entries, rows, image}
-use Rattle.packing.specs.Pack.{counts_right, entry_right, formed, first_malformed, unless_malformed, size, packing, output_after}
+use Rattle.module.specs.Contents.{entries, rows, image}
+use Rattle.packing.specs.Pack.{counts_right, entry_right, formed, first_malformed, unless_malformed, size, packing}
 use Rattle.packing.specs.Packed.{nth_entry, nth_row, before, total}
-use Rattle.packing.proofs.Repack.{entries_long, rows_long, image_long, entry_is, row_is, before_is, repacked}
+use Rattle.packing.proofs.Rebuilt.{entries_long, rows_long, image_long, entry_is, row_is, before_is}
 use Rattle.module.proofs.Firsts.{all_pass}
 
 place_all : (test : ℕ → ℕ → Bool) (count : ℕ → ℕ) (left r : ℕ) → ((s i : ℕ) → s < r + left → i < count s → test s i ≡ true) → first_place test count left r ≡ None
@@ -71,8 +70,3 @@ module _ (bs : List ℕ) (small : Octets bs) (ok : Laid bs) (kept : KeptEverywhe
       (unless_malformed (none_malformed i)
       (layout.provided (leb (size_is i) room) (caller 13)
       (Ok (size_is i))))))
-
-  pub output_is : (out : List ℕ) → output_after (entries bs) (rows bs) (image bs) out ≡ cond (leb (length bs) (length out)) (bs ++ drop (length bs) out) out
-  output_is out =
-      let tests : is_ok (packing (entries bs) (rows bs) (image bs) (length out)) ≡ leb (length bs) (length out) = ap is_ok (packing_is (length out)) ∙ grind (arith, common_steps) in
-      λ i. cond (tests i) (repacked bs small ok i ++ drop (size_is i) out) out

@@ -2,9 +2,9 @@ pub mod Again
 pub mod Blocks
 pub mod Bodies
 pub mod Digits
+pub mod Filled
 pub mod Passed
-pub mod Recovers
-pub mod Repack
+pub mod Rebuilt
 pub mod Shown
 pub mod Sums
 pub mod Trips

@@ -13,7 +13,7 @@ use Rattle.module.specs.Bytes.{byte, four}
 use Rattle.module.specs.First.{first_failing}
 use Rattle.module.specs.Layout as layout
 use Rattle.module.specs.Layout.{entry_of}
-use Rattle.module.specs.Unpack.{body_row, entries, rows, image}
+use Rattle.module.specs.Contents.{body_row, entries, rows, image}
 use Rattle.module.proofs.Firsts.{all_pass}
 use Rattle.packing.specs.Pack.{size}
 use Rattle.packing.specs.Packed.{low2, no_entry, no_row, nth_entry, nth_row, before, total, entry_bytes, row_bytes, blocks, packed}

@@ -1,50 +1,46 @@
--- The steps of a round trip.
-use Rattle.std.proofs.Common.{◌≡◌, ℕ, true, cond, ◌&&◌, leb, List, ◌++◌, length, take, drop, Ok, Result, sym, ap, ◌∙◌, arith}
-use Rattle.std.proofs.lemmas.List.{take_at}
-use Rattle.std.proofs.lemmas.Bool.{cond-true}
-use Rattle.std.proofs.lemmas.Grind.{common_steps}
-use Rattle.refusal.specs.Values.{Values, caller}
+-- The two round trips.
+use Rattle.std.proofs.Common.{◌≡◌, ℕ, ◌&&◌, leb, List, length, is_ok, Ok, sym, ap, ◌∙◌, subst}
+use Rattle.std.proofs.lemmas.List.FromFn.{length-map-range_with_len}
+use Rattle.refusal.specs.Values.{caller}
 use Rattle.isa.specs.declared.row.Row.{Row}
+use Rattle.module.specs.declared.checked.Checked.{Checked}
 use Rattle.module.specs.declared.entry.Entry.{Entry}
-use Rattle.module.specs.Bytes.{Octets}
-use Rattle.module.specs.Kept.{KeptEverywhere}
-use Rattle.module.specs.Laid.{Laid}
-use Rattle.module.specs.Layout.{routines, total, provided}
-use Rattle.module.specs.Unpack.{entries, rows, image, roomy, unpacking, entries_after, rows_after}
-use Rattle.packing.specs.Pack.{packing, output_after}
-use Rattle.packing.proofs.Again.{packing_is, output_is}
-use Rattle.packing.proofs.Repack.{entries_long, rows_long}
-use Rattle.packing.specs.Shows.{repacking, repacked_into}
+use Rattle.module.specs.Contents.{body_row, entries, rows, image}
+use Rattle.module.specs.Layout.{routines, entry_of, total, provided}
+use Rattle.module.specs.Told.{bytes_of}
+use Rattle.module.proofs.Accepts.{accepts_checked, accepts_kept}
+use Rattle.module.proofs.Opens.{opened_laid}
+use Rattle.packing.specs.Shows.{Shows}
+use Rattle.packing.specs.Trips.{PacksTo, UnpacksTo}
+use Rattle.packing.specs.Unpack.{unpacking}
+use Rattle.packing.specs.Written.{written_if}
+use Rattle.packing.proofs.Again.{packing_is}
+use Rattle.packing.proofs.Rebuilt.{repacked}
 
--- a front of a list that was written over the front of another
-front : {X : Type 0} (xs ys written : List X) (m n : ℕ) → m ≡ n → length xs ≡ n → written ≡ xs ++ ys → take m written ≡ xs
-front xs ys written m n e long w = (λ i. take (e i) (w i)) ∙ take_at xs ys n long
+-- the entries, rows and image of a checked module pack to its bytes
+module _ (m : Checked) where
+  abbrev bs : List ℕ
+  bs = bytes_of m.opened
 
-module _ (bs : List ℕ) (small : Octets bs) (ok : Laid bs) (kept : KeptEverywhere bs) (es : List Entry) (rs : List Row) (n t : ℕ)
-    (h : ◌≡◌ {A = Result (ℕ × ℕ) Values} (Ok (n, t)) (unpacking bs (length es) (length rs))) (es' : List Entry) (rs' : List Row) (im : List ℕ)
-    (e : es' ≡ entries_after bs es rs) (r : rs' ≡ rows_after bs es rs) (m : im ≡ image bs) where
-  room_enough : (roomy bs (length es) (length rs) ≡ true) × (◌≡◌ {A = ℕ × ℕ} (n, t) (routines bs, total bs))
-  room_enough = (grind (arith, common_steps), grind (arith, common_steps))
+  own : PacksTo bs (entries bs) (rows bs) (image bs)
+  own =
+      let laid = opened_laid m.opened in
+      record {
+        verdict = packing_is bs m.opened.octets laid (accepts_kept bs (accepts_checked m));
+        bytes = repacked bs m.opened.octets laid;
+      }
 
-  entries_front : (k : ℕ) → k ≡ n → take k es' ≡ entries bs
-  entries_front k q =
-      front (entries bs) (drop (routines bs) es) es' k (routines bs) (q ∙ ap (λ x. x.0) room_enough.1) (entries_long bs small ok)
-      (e ∙ cond-true _ _ _ room_enough.0)
+  pub packs : (es : List Entry) (rs : List Row) → es ≡ entries bs → rs ≡ rows bs → PacksTo bs es rs (image bs)
+  packs es rs e r =
+      subst (λ l. PacksTo bs l rs (image bs)) (sym e) (subst (λ l. PacksTo bs (entries bs) l (image bs)) (sym r) own)
 
-  rows_front : (k : ℕ) → k ≡ t → take k rs' ≡ rows bs
-  rows_front k q =
-      front (rows bs) (drop (total bs) rs) rs' k (total bs) (q ∙ ap (λ x. x.1) room_enough.1) (rows_long bs small ok)
-      (r ∙ cond-true _ _ _ room_enough.0)
-
-  module _ (k j : ℕ) (p : k ≡ n) (q : j ≡ t) where
-    pub trip_verdict : (room : ℕ) → packing (take k es') (take j rs') im room ≡ repacking bs (length es) (length rs) room
-    trip_verdict room =
-        (λ i. packing (entries_front k p i) (rows_front j q i) (m i) room)
-        ∙ packing_is bs small ok kept room
-        ∙ ap (λ b. provided (b && leb (length bs) room) (caller 13) (Ok (length bs))) (sym room_enough.0)
-
-    pub trip_output : (out : List ℕ) → output_after (take k es') (take j rs') im out ≡ repacked_into bs (length es) (length rs) out
-    trip_output out =
-        (λ i. output_after (entries_front k p i) (rows_front j q i) (m i) out)
-        ∙ output_is bs small ok kept out
-        ∙ ap (λ b. cond (b && leb (length bs) (length out)) (bs ++ drop (length bs) out) out) (sym room_enough.0)
+pub unpacks : (bs : List ℕ) (es : List Entry) (rs : List Row) (im : List ℕ) → Shows bs es rs im → UnpacksTo bs es rs im
+unpacks bs es rs im shows =
+    let n : routines bs ≡ length es = sym (length-map-range_with_len (entry_of bs) 0 (routines bs)) ∙ ap length shows.contents in
+    let t : total bs ≡ length rs = sym (length-map-range_with_len (body_row bs) 0 (total bs)) ∙ ap length shows.bodies in
+    record {
+      verdict = λ most_n most_t i. provided (leb (n i) most_n && leb (t i) most_t) (caller 13) (Ok (n i, t i));
+      contents = λ lent other. ap (λ l. written_if (is_ok (unpacking bs (length lent) (length other))) l lent) shows.contents;
+      bodies = λ other lent. ap (λ l. written_if (is_ok (unpacking bs (length other) (length lent))) l lent) shows.bodies;
+      last = shows.last;
+    }

@@ -1,5 +1,5 @@
 -- What pack answers, and what it leaves in the output.
-use Rattle.std.specs.Prelude.{ℕ, ◌+◌, ◌-◌, ◌*◌, Bool, cond, List, ◌++◌, length, drop, is_ok, Ok, Option, Result, ◌==◌, nat_le}
+use Rattle.std.specs.Prelude.{ℕ, ◌+◌, ◌-◌, ◌*◌, Bool, List, length, is_ok, Ok, Option, Result, ◌==◌, nat_le}
 use Rattle.refusal.specs.Values.{Values, author, author_at, caller}
 use Rattle.refusal.specs.declared.Place.{Place}
 use Rattle.isa.specs.declared.row.Row.{Row}
@@ -8,6 +8,7 @@ use Rattle.module.specs.declared.entry.Entry.{Entry}
 use Rattle.module.specs.First.{first_failing, first_place}
 use Rattle.module.specs.Layout.{admitted, right, provided, unless, unless_wrong}
 use Rattle.packing.specs.Packed.{nth_entry, nth_row, before, total, packed}
+use Rattle.packing.specs.Written.{written_if}
 
 -- a module may have so many routines and so long an image
 abbrev pub counts_right : List Entry → List ℕ → Bool
@@ -48,10 +49,6 @@ if_room n room = provided (nat_le n room) (caller 13) (Ok n)
 abbrev pub packing : List Entry → List Row → List ℕ → ℕ → Result ℕ Values
 packing es rs im room = if_counted es rs im (unless_malformed (first_malformed es rs) (if_room (size es im) room))
 
--- the output after an answer: the module is written from its start, or nothing is
-abbrev pub output_after_answer : Result ℕ Values → List Entry → List Row → List ℕ → List ℕ → List ℕ
-output_after_answer answer es rs im out = cond (is_ok answer) (packed es rs im ++ drop (size es im) out) out
-
 -- the output after pack
 abbrev pub output_after : List Entry → List Row → List ℕ → List ℕ → List ℕ
-output_after es rs im out = output_after_answer (packing es rs im (length out)) es rs im out
+output_after es rs im out = written_if (is_ok (packing es rs im (length out))) (packed es rs im) out

@@ -1,9 +1,10 @@
-//! Modules put together from entries, instruction rows and an image.
+//! Modules taken apart into entries, instruction rows and an image, and put together from them.
 
 #![tactic(auto)]
 
 pub mod pack;
 pub mod parts;
-pub mod round;
+pub mod repack;
 mod test;
+pub mod unpack;
 mod write;

@@ -1,9 +1,10 @@
 // The bytes of a module, written from the start of the output.
-ghost use Rattle.std.specs.Prelude.{◌≡◌, ◌+◌, ◌≤◌, [], ◌∷◌, ◌++◌, length, take, drop, OnOk};
+ghost use Rattle.std.specs.Prelude.{◌≡◌, ◌+◌, ◌≤◌, [], ◌∷◌, ◌++◌, length, take, drop, is_ok, OnOk};
 ghost use Rattle.refusal.specs.Values.{told};
-ghost use Rattle.packing.specs.Pack.{size, if_room, output_after_answer};
+ghost use Rattle.packing.specs.Pack.{size, if_room};
 ghost use Rattle.packing.specs.Packed.{low2, low4, row_bytes, packed};
 ghost use Rattle.packing.specs.Shows.{Shows};
+ghost use Rattle.packing.specs.Written.{written_if};
 
 use crate::parts::Parts;
 use crate::test::Tested;
@@ -50,7 +51,7 @@ impl Tested<'_> {
     // Writes the module, if there is room for it.
     pub(crate) fn write(&self, output: &mut [u8]) -> Result<usize, Refusal>
         ensures verdict { let p = self.now.counted.parts in told result ≡ if_room (size p.entries.now p.image.now) (length output.old) }
-        ensures output { let p = self.now.counted.parts in output.new ≡ output_after_answer (told result) p.entries.now p.rows.now p.image.now output.old }
+        ensures output { let p = self.now.counted.parts in output.new ≡ written_if (is_ok result) (packed p.entries.now p.rows.now p.image.now) output.old }
         ensures shows { let p = self.now.counted.parts in OnOk result (Shows (packed p.entries.now p.rows.now p.image.now) p.entries.now p.rows.now p.image.now) }
     {
         let size = self.counted.size();

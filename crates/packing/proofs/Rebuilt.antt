@@ -6,7 +6,7 @@ use Rattle.module.specs.Bytes.{Octets, two, four}
 use Rattle.module.specs.Laid.{Laid}
 use Rattle.module.specs.Layout as layout
 use Rattle.module.specs.Layout.{entry_of}
-use Rattle.module.specs.Unpack.{body_row, entries, rows, image}
+use Rattle.module.specs.Contents.{body_row, entries, rows, image}
 use Rattle.packing.specs.Packed.{low2, low4, no_entry, no_row, nth_entry, nth_row, before, entry_bytes, row_bytes, blocks, packed}
 use Rattle.packing.proofs.Digits.{low2_is, low4_is}
 
