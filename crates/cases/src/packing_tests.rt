@@ -7,7 +7,8 @@ use module::open::open;
 use module::shape::ShapeRow;
 use packing::pack::pack;
 use packing::parts::Parts;
-use packing::round::{recover, repack};
+use packing::repack::repack;
+use packing::unpack::unpack;
 use refusal::{Place, Refusal};
 use std::process::Abort;
 
@@ -43,12 +44,10 @@ macro_rules! place {
     };
 }
 
-// What entries, rows, sheets and output hold that no call wrote.
+// What entries, rows and output hold that no call wrote.
 const OTHER_ENTRY: Entry = entry!(9, 9, 9);
 
 const OTHER_ROW: Row = row!(99, 99, 99, 99, 99);
-
-const OTHER_SHAPE: ShapeRow = ShapeRow { depth: 7, mask: 7 };
 
 const OTHER_BYTE: u8 = 0xEE;
 
@@ -115,9 +114,6 @@ const CALL_2: Row = row!(22, 0, 0, 0, 2);
 const MOV_DEEP: Row = row!(3, 0, 2, 0, 0);
 
 const BLT_FAR: Row = row!(20, 0, 1, 0, 3);
-
-// Before the first instruction of a routine that takes nothing.
-const EMPTY_SHAPE: ShapeRow = ShapeRow { depth: 0, mask: 0 };
 
 const PARTS: Parts<'static> = Parts {
     entries: &ENTRIES,
@@ -207,7 +203,8 @@ fn unpack_writes_what_there_is_room_for(rt: HostRuntime) {
         let mut rows = [OTHER_ROW; 12];
         let (most_entries, most_rows) = case.room;
         let checked = checked(case.bytes).expect(&rt, "a module");
-        let answer = checked.unpack(
+        let answer = unpack(
+            &checked,
             room(&rt, &mut entries, most_entries),
             room(&rt, &mut rows, most_rows),
         );
@@ -446,16 +443,29 @@ struct Repack {
     output: &'static [u8],
 }
 
-static REPACKED: [Repack; 3] = [
+static REPACKED: [Repack; 5] = [
     Repack {
         room: (5, 14, 114),
         answer: Ok(111),
         written: PARTS,
         output: &TWO_ROUTINES,
     },
-    // one too few
+    // just enough room
     Repack {
-        room: (2, 10, 110),
+        room: (2, 11, 111),
+        answer: Ok(111),
+        written: PARTS,
+        output: &TWO_ROUTINES,
+    },
+    // one too few of entries, of rows or of bytes changes nothing
+    Repack {
+        room: (1, 11, 111),
+        answer: Err(Refusal::Room),
+        written: NO_PARTS,
+        output: &[],
+    },
+    Repack {
+        room: (2, 10, 111),
         answer: Err(Refusal::Room),
         written: NO_PARTS,
         output: &[],
@@ -463,7 +473,7 @@ static REPACKED: [Repack; 3] = [
     Repack {
         room: (2, 11, 110),
         answer: Err(Refusal::Room),
-        written: PARTS,
+        written: NO_PARTS,
         output: &[],
     },
 ];
@@ -489,150 +499,104 @@ fn repack_gives_the_bytes_back(rt: HostRuntime) {
     }
 }
 
-// How many bytes, shapes, entries and rows there is room for.
-#[derive(Clone, Copy)]
-struct Room {
-    output: usize,
-    sheet: usize,
-    entries: usize,
-    rows: usize,
-}
-
-const AMPLE: Room = Room {
-    output: 5125,
-    sheet: 64,
-    entries: 67,
-    rows: 67,
-};
-
-const JUST_ENOUGH: Room = Room {
-    output: 111,
-    sheet: 12,
-    entries: 2,
-    rows: 11,
-};
-
-// A call of recover: the parts, which are packed into so many bytes. What it answers and writes.
-struct Recover {
+// Parts that are packed: the length, and what check answers of the bytes. An accepted module unpacks to the parts again.
+struct Trip {
     parts: Parts<'static>,
-    room: Room,
     size: usize,
-    answer: Result<(usize, usize), Refusal>,
-    written: Parts<'static>,
-    sheet: &'static [ShapeRow],
+    verdict: Result<(), Refusal>,
 }
 
-static RECOVERED: [Recover; 7] = [
-    // 64 routines of one RET, with images of all lengths
-    Recover {
-        parts: MANY_ROUTINES,
-        room: AMPLE,
-        size: 1028,
-        answer: Ok((64, 64)),
-        written: MANY_ROUTINES,
-        sheet: &[EMPTY_SHAPE; 64],
+static TRIPS: [Trip; 8] = [
+    Trip {
+        parts: PARTS,
+        size: 111,
+        verdict: Ok(()),
     },
-    Recover {
+    // 64 routines of one RET, with images of all lengths
+    Trip {
+        parts: MANY_ROUTINES,
+        size: 1028,
+        verdict: Ok(()),
+    },
+    Trip {
         parts: Parts {
             image: &[7],
             ..MANY_ROUTINES
         },
-        room: AMPLE,
         size: 1029,
-        answer: Ok((64, 64)),
-        written: MANY_ROUTINES,
-        sheet: &[EMPTY_SHAPE; 64],
+        verdict: Ok(()),
     },
-    Recover {
+    Trip {
         parts: Parts {
             image: &[7; 4096],
             ..MANY_ROUTINES
         },
-        room: AMPLE,
         size: 5124,
-        answer: Ok((64, 64)),
-        written: MANY_ROUTINES,
-        sheet: &[EMPTY_SHAPE; 64],
+        verdict: Ok(()),
     },
     // packed, and refused by the check
-    Recover {
+    Trip {
         parts: Parts {
             rows: &[
                 NEW, NEW, ZERO, FIRST, SECOND, CALL_2, PUT, RET, BLT, MOV, RET,
             ],
             ..PARTS
         },
-        room: JUST_ENOUGH,
         size: 111,
-        answer: Err(Refusal::Callee(place!(0, 5))),
-        written: NO_PARTS,
-        sheet: &[ShapeRow::BLANK; 11],
+        verdict: Err(Refusal::Callee(place!(0, 5))),
     },
-    Recover {
+    Trip {
         parts: Parts {
             rows: &[
                 NEW, NEW, ZERO, FIRST, SECOND, CALL, PUT, RET, BLT, MOV_DEEP, RET,
             ],
             ..PARTS
         },
-        room: JUST_ENOUGH,
         size: 111,
-        answer: Err(Refusal::Register(place!(1, 1))),
-        written: NO_PARTS,
-        sheet: &[ShapeRow::BLANK; 11],
+        verdict: Err(Refusal::Register(place!(1, 1))),
     },
-    Recover {
+    Trip {
         parts: Parts {
             rows: &[
                 NEW, NEW, ZERO, FIRST, SECOND, CALL, PUT, RET, BLT_FAR, MOV, RET,
             ],
             ..PARTS
         },
-        room: JUST_ENOUGH,
         size: 111,
-        answer: Err(Refusal::Target(place!(1, 0))),
-        written: NO_PARTS,
-        sheet: &[ShapeRow::BLANK; 11],
+        verdict: Err(Refusal::Target(place!(1, 0))),
     },
-    Recover {
+    Trip {
         parts: Parts {
             entries: &[entry!(7, 0, 0), entry!(4, 2, 1)],
             ..PARTS
         },
-        room: JUST_ENOUGH,
         size: 111,
-        answer: Err(Refusal::Ending(place!(0, 6))),
-        written: NO_PARTS,
-        sheet: &[ShapeRow::BLANK; 11],
+        verdict: Err(Refusal::Ending(place!(0, 6))),
     },
 ];
 
-fn recovers(rt: &impl Abort, case: &Recover) {
-    let mut output = [OTHER_BYTE; 5125];
-    let mut sheet = [OTHER_SHAPE; 64];
+// Unpacks a checked module into more than enough room: the parts that it was packed from come back.
+fn comes_back(rt: &impl Abort, checked: &Checked<'_>, parts: Parts<'_>) {
     let mut entries = [OTHER_ENTRY; 67];
     let mut rows = [OTHER_ROW; 67];
-    let answer = recover(
-        case.parts,
-        room(rt, &mut output, case.room.output),
-        room(rt, &mut sheet, case.room.sheet),
-        room(rt, &mut entries, case.room.entries),
-        room(rt, &mut rows, case.room.rows),
-    );
-    assert_eq!(rt; answer, case.answer);
-    holds(rt, &sheet, case.sheet, &OTHER_SHAPE);
-    holds(rt, &entries, case.written.entries, &OTHER_ENTRY);
-    holds(rt, &rows, case.written.rows, &OTHER_ROW);
-    let bytes = output.get(..case.size).expect(rt, "room for the bytes");
-    let opened = open(bytes).expect(rt, "a module");
-    assert_eq!(rt; opened.counts().image, case.parts.image.len());
-    assert!(rt; bytes.ends_with(case.parts.image));
-    holds(rt, &output, bytes, &OTHER_BYTE);
+    let answer = unpack(checked, &mut entries, &mut rows);
+    assert_eq!(rt; answer, Ok((parts.entries.len(), parts.rows.len())));
+    holds(rt, &entries, parts.entries, &OTHER_ENTRY);
+    holds(rt, &rows, parts.rows, &OTHER_ROW);
+    assert!(rt; checked.image() == parts.image);
 }
 
 #[test]
-fn recover_gives_the_parts_back(rt: HostRuntime) {
-    for case in &RECOVERED {
-        recovers(&rt, case);
+fn parts_come_back_of_what_check_accepts(rt: HostRuntime) {
+    for case in &TRIPS {
+        let mut output = [OTHER_BYTE; 5125];
+        assert_eq!(rt; pack(case.parts, &mut output), Ok(case.size));
+        match checked(output.get(..case.size).expect(&rt, "room for the bytes")) {
+            Ok(checked) => {
+                assert_eq!(rt; case.verdict, Ok(()));
+                comes_back(&rt, &checked, case.parts);
+            }
+            Err(refusal) => assert_eq!(rt; case.verdict, Err(refusal)),
+        }
     }
 }

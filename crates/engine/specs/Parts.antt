@@ -4,9 +4,10 @@ use Rattle.std.specs.List.{flat_map}
 use Rattle.refusal.specs.Values.{Values}
 use Rattle.isa.specs.declared.row.Row.{Row}
 use Rattle.module.specs.declared.entry.Entry.{Entry}
-use Rattle.module.specs.Unpack.{unpacking, entries_after, rows_after, image}
+use Rattle.module.specs.Contents.{image}
 use Rattle.module.specs.Verdict.{checking}
 use Rattle.packing.specs.Pack.{packing, output_after}
+use Rattle.packing.specs.Unpack.{unpacking, entries_after, rows_after}
 use Rattle.engine.specs.declared.field.Field.{Field}
 use Rattle.engine.specs.declared.field.Field.TheVariants.{One, Four}
 use Rattle.engine.specs.Fields.{refused_fields, entry_fields, instruction_fields}

@@ -15,6 +15,7 @@ use module::limits;
 use module::shape::ShapeRow;
 use packing::pack::pack;
 use packing::parts::Parts;
+use packing::unpack::unpack;
 use refusal::Refusal;
 
 // How many entries and rows there are, or the refusal.
@@ -38,7 +39,7 @@ fn add_sizes(text: &mut Text, answer: Result<(usize, usize), Refusal>)
 fn add_taken_apart(text: &mut Text, checked: &Checked<'_>, entries: &mut [Entry], rows: &mut [Row])
     ensures { Added text.old.items (fields_bytes (taken_apart_fields (bytes_of checked.now.opened) entries.old rows.old)) text.new.items }
 {
-    let answer = checked.unpack(entries, rows);
+    let answer = unpack(checked, entries, rows);
     add_sizes(text, answer);
     add_entries(text, entries);
     add_instructions(text, rows);

@@ -2,11 +2,11 @@
 use Rattle.std.specs.Prelude.{◌≡◌, ℕ, ◌-◌, ◌<◌, Bool, true, false, ◌&&◌, List, [], ◌∷◌, ◌++◌, length, replicate, Some, ◌==◌}
 use Rattle.std.specs.List.{AllByRecursion}
 use Rattle.host.specs.declared.port.Port.{Port}
+use Rattle.module.specs.Contents.{image}
 use Rattle.module.specs.Layout.{routines, count}
 use Rattle.module.specs.Places.{inside}
 use Rattle.module.specs.Rules.{same_shape}
 use Rattle.module.specs.Shape.{shape}
-use Rattle.module.specs.Unpack.{image}
 use Rattle.machine.specs.Level.{Level, level}
 use Rattle.machine.specs.World.{Phase, running, ended, tripped, World, world, shape_of, here, calls_routine, step}
 

@@ -88,7 +88,7 @@ laid bs h =
       };
     }
 
-counts_opened : (bs : List ℕ) (c : Counts) → opening bs ≡ Ok c → c ≡ counts bs
+pub counts_opened : (bs : List ℕ) (c : Counts) → opening bs ≡ Ok c → c ≡ counts bs
 counts_opened bs c e =
     let same : Ok c ≡ Ok (counts bs) = sym e ∙ (tests bs (ap is_ok e)).told in (cc)
 

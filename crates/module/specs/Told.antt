@@ -6,6 +6,7 @@ use Rattle.refusal.specs.declared.Refusal.{Refusal}
 use Rattle.isa.specs.declared.row.Row.{Row}
 use Rattle.module.specs.Layout.{row_from}
 use Rattle.module.specs.declared.body.Body.{Body}
+use Rattle.module.specs.declared.contents.Contents.{Contents}
 use Rattle.module.specs.declared.contents.RowAt.{RowAt}
 use Rattle.module.specs.declared.opened.Counts.{Counts}
 use Rattle.module.specs.declared.opened.Opened.{Opened}
@@ -26,6 +27,10 @@ bytes_behind t = t.bytes.now
 
 abbrev pub routine_of : Body → ℕ
 routine_of t = t.routine
+
+-- the bytes of which entries and rows are read
+abbrev pub bytes_read : Contents → List ℕ
+bytes_read t = t.bytes.now
 
 -- the row that begins at a byte
 abbrev pub row_of : RowAt → Row

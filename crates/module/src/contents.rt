@@ -1,10 +1,13 @@
-// The entries and rows of a module's bytes, where there is room for them.
-ghost use Rattle.std.specs.Prelude.{◌≡◌, ◌+◌, ◌*◌, ◌^◌, ◌<◌, ◌≤◌, length};
+//! The entries and rows of a module's bytes.
+
+ghost use Rattle.std.specs.Prelude.{◌≡◌, ◌+◌, ◌*◌, ◌^◌, ◌<◌, ◌≤◌, length, Ok};
 ghost use Rattle.module.specs.Bytes.{byte};
-ghost use Rattle.module.specs.Layout.{offset, entry_of, row_from};
+ghost use Rattle.module.specs.Layout.{opening, offset, entry_of, row_from};
 
 use crate::bytes::{read_four, read_two};
+use crate::checked::Checked;
 use crate::entry::Entry;
+use crate::opened::Counts;
 use isa::decode::Fields;
 use isa::row::Row;
 
@@ -104,5 +107,62 @@ impl Fields for RowAt<'_> {
     #[inline(always)]
     fn n(&self) -> u32 {
         read_four(self.bytes, self.at + 4)
+    }
+}
+
+/// The entries and rows of a checked module, to be read one by one. It is copied, so that a loop has it at hand and reads
+/// nothing but the bytes.
+#[derive(Clone, Copy)]
+pub struct Contents<'a> {
+    bytes: &'a [u8],
+    counts: Counts,
+    ghost opens: { opening bytes.now ≡ Ok counts },
+}
+
+impl<'a> Checked<'a> {
+    ghost use Rattle.module.specs.Told.{bytes_of, bytes_read};
+
+    /// Its entries and rows.
+    #[inline(always)]
+    pub fn contents(&self) -> Contents<'a>
+        ensures { bytes_read result ≡ bytes_of self.now.opened }
+    {
+        Contents {
+            bytes: self.opened.bytes,
+            counts: self.opened.counts,
+        }
+    }
+}
+
+impl Contents<'_> {
+    ghost use Rattle.std.specs.Prelude.{slice_get};
+    ghost use Rattle.module.specs.Contents.{entries, rows};
+    ghost use Rattle.module.specs.Told.{bytes_read};
+
+    /// The entry of a routine, if there is such a routine.
+    #[inline(always)]
+    pub fn entry(self, routine: usize) -> Option<Entry>
+        ensures { result ≡ slice_get (entries (bytes_read self.entry)) routine }
+    {
+        if routine >= self.counts.routines {
+            return None;
+        }
+        Some(entry_of(self.bytes, routine))
+    }
+
+    /// Row k of all, in order of place, if there are more than k.
+    #[inline(always)]
+    pub fn row(self, k: usize) -> Option<Row>
+        ensures { result ≡ slice_get (rows (bytes_read self.entry)) k }
+    {
+        let Counts {
+            routines,
+            total,
+            ..
+        } = self.counts;
+        if k >= total {
+            return None;
+        }
+        Some(row_from(self.bytes, 4 + 8 * routines + 8 * k))
     }
 }

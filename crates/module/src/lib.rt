@@ -6,7 +6,7 @@ pub mod body;
 mod bytes;
 mod check;
 pub mod checked;
-mod contents;
+pub mod contents;
 pub mod entry;
 mod fill;
 pub mod limits;

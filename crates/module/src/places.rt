@@ -1,18 +1,15 @@
-// What a checked module has, at a place or as a whole.
-ghost use Rattle.std.specs.Prelude.{◌≡◌, ◌≤◌, MatchOption, slice_get};
-ghost use Rattle.module.specs.Contents.{entries, rows, image};
+// What a checked module has at a place, and its image.
+ghost use Rattle.std.specs.Prelude.{◌≡◌, ◌≤◌, MatchOption};
+ghost use Rattle.module.specs.Contents.{image};
 ghost use Rattle.module.specs.Layout.{routines};
 ghost use Rattle.module.specs.Places.{instr_at, signature_at};
 ghost use Rattle.module.specs.Told.{bytes_in, bytes_of};
 
 use crate::checked::Checked;
-use crate::contents::row_from;
-use crate::entry::Entry;
 use crate::opened::Counts;
 use crate::routine::Routine;
 use isa::access::Signature;
 use isa::instr::Instr;
-use isa::row::Row;
 
 impl<'a> Checked<'a> {
     fn routine(&self, index: usize) -> Option<Routine<'_>>
@@ -40,30 +37,6 @@ impl<'a> Checked<'a> {
     {
         Some(self.routine(routine)?.signature())
     }
-    /// The entry of a routine, if there is such a routine.
-    #[inline(always)]
-    pub fn entry(&self, routine: usize) -> Option<Entry>
-        ensures { result ≡ slice_get (entries (bytes_of self.now.opened)) routine }
-    {
-        Some(self.routine(routine)?.head)
-    }
-
-    /// Row k of all, in order of place, if there are more than k.
-    #[inline(always)]
-    pub fn row(&self, k: usize) -> Option<Row>
-        ensures { result ≡ slice_get (rows (bytes_of self.now.opened)) k }
-    {
-        let Counts {
-            routines,
-            total,
-            ..
-        } = self.opened.counts;
-        if k >= total {
-            return None;
-        }
-        Some(row_from(self.opened.bytes, 4 + 8 * routines + 8 * k))
-    }
-
     /// The image, a part of the caller's own bytes.
     pub fn image(&self) -> &'a [u8]
         ensures { result.now ≡ image (bytes_of self.now.opened) }

@@ -2,33 +2,34 @@ ghost use Rattle.std.specs.Prelude.{◌≡◌, length, take, IfOk};
 ghost use Rattle.refusal.specs.Values.{told};
 ghost use Rattle.module.specs.Contents.{entries as entries_of, rows as rows_of, image as image_of};
 ghost use Rattle.module.specs.Layout.{routines, total};
-ghost use Rattle.module.specs.Told.{bytes_of};
+ghost use Rattle.module.specs.Told.{bytes_of, bytes_read};
 ghost use Rattle.packing.specs.Trips.{PacksTo};
 ghost use Rattle.packing.specs.Unpack.{unpacking, entries_after, rows_after};
 
 use isa::row::Row;
 use module::checked::Checked;
+use module::contents::Contents;
 use module::entry::Entry;
 use module::opened::Counts;
 use refusal::Refusal;
 
-fn write_entries(checked: &Checked<'_>, entries: &mut [Entry])
-    requires { length entries.old ≡ routines (bytes_of checked.now.opened) }
-    ensures { entries.new ≡ entries_of (bytes_of checked.now.opened) }
+fn write_entries(contents: Contents<'_>, entries: &mut [Entry])
+    requires { length entries.old ≡ routines (bytes_read contents) }
+    ensures { entries.new ≡ entries_of (bytes_read contents.entry) }
 {
     for (r, entry) in entries.iter_mut().enumerate() {
-        if let Some(own) = checked.entry(r) {
+        if let Some(own) = contents.entry(r) {
             *entry = own;
         }
     }
 }
 
-fn write_rows(checked: &Checked<'_>, rows: &mut [Row])
-    requires { length rows.old ≡ total (bytes_of checked.now.opened) }
-    ensures { rows.new ≡ rows_of (bytes_of checked.now.opened) }
+fn write_rows(contents: Contents<'_>, rows: &mut [Row])
+    requires { length rows.old ≡ total (bytes_read contents) }
+    ensures { rows.new ≡ rows_of (bytes_read contents.entry) }
 {
     for (k, row) in rows.iter_mut().enumerate() {
-        if let Some(own) = checked.row(k) {
+        if let Some(own) = contents.row(k) {
             *row = own;
         }
     }
@@ -58,7 +59,8 @@ pub fn unpack(
     if entries.len() < routines || rows.len() < total {
         return Err(Refusal::Room);
     }
-    write_entries(checked, &mut entries[0..routines]);
-    write_rows(checked, &mut rows[0..total]);
+    let contents = checked.contents();
+    write_entries(contents, &mut entries[0..routines]);
+    write_rows(contents, &mut rows[0..total]);
     Ok((routines, total))
 }

@@ -13,7 +13,7 @@ use module::entry::Entry;
 use module::limits;
 use module::open::open;
 use module::shape::ShapeRow;
-use packing::round::repack;
+use packing::repack::repack;
 use refusal::Refusal;
 use std::alloc::Global;
 use std::time::Clock;

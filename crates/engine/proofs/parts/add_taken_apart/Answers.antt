@@ -2,8 +2,9 @@ use Rattle.std.proofs.Common.{List, ◌++◌, length, map, ap}
 use Rattle.std.specs.List.{flat_map}
 use Rattle.isa.specs.declared.row.Row.{Row}
 use Rattle.module.specs.declared.entry.Entry.{Entry}
+use Rattle.module.specs.Contents.{image}
 use Rattle.module.specs.Told.{bytes_of}
-use Rattle.module.specs.Unpack.{unpacking, entries_after, rows_after, image}
+use Rattle.packing.specs.Unpack.{unpacking, entries_after, rows_after}
 use Rattle.engine.specs.declared.field.Field.TheVariants.{One}
 use Rattle.engine.specs.Fields.{fields_bytes, entry_fields, instruction_fields}
 use Rattle.engine.specs.Parts.{sizes_fields}
