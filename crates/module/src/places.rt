@@ -37,6 +37,7 @@ impl<'a> Checked<'a> {
     {
         Some(self.routine(routine)?.signature())
     }
+
     /// The image, a part of the caller's own bytes.
     pub fn image(&self) -> &'a [u8]
         ensures { result.now ≡ image (bytes_of self.now.opened) }
