@@ -3,8 +3,7 @@
 #![tactic(auto)]
 
 ghost use Rattle.std.specs.Prelude.{◌≡◌, ◌≤◌, [], ◌∷◌, ◌++◌, length, IfOk, IfSome, string_bytes};
-ghost use Rattle.module.specs.Told.{bytes_of, verdict_of};
-ghost use Rattle.module.specs.Verdict.{checking, sheet_after};
+ghost use Rattle.module.specs.Told.{bytes_of};
 ghost use Rattle.bench.specs.Measured.{run_text, module_text, printed, DecidedBy};
 
 use drive::call::{Call, Turn};
@@ -12,11 +11,10 @@ use drive::run::run;
 use host::Host;
 use host::axis::AxisHost;
 use lines::{Answered, add_faults, add_ports};
+use module::check::examine;
 use module::checked::Checked;
 use module::limits;
-use module::open::open;
 use module::shape::ShapeRow;
-use refusal::Refusal;
 use std::alloc::{AllocError, Global};
 use std::env::{Env, FillError};
 use std::io;
@@ -27,15 +25,6 @@ mod lines;
 
 // The fuel of the one grant.
 const FUEL: u32 = 10_000;
-
-// The checked module, if it is accepted.
-fn examine<'a>(bytes: &'a [u8], sheet: &mut [ShapeRow]) -> Result<Checked<'a>, Refusal>
-    ensures verdict { verdict_of result ≡ checking bytes.now (length sheet.old) }
-    ensures sheet { sheet.new ≡ sheet_after bytes.now sheet.old }
-    ensures bytes { IfOk result (λ m. bytes_of m.opened ≡ bytes.now) }
-{
-    Ok(open(bytes)?.check(sheet)?)
-}
 
 // Makes a call to a new drive of a checked module, and adds the lines of its run.
 fn measure<H: Host>(

@@ -1,8 +1,7 @@
 //! Answers, with a refusal by its four numbers.
 
 use crate::build::Given;
-use module::checked::Checked;
-use module::open::open;
+use module::check::examine;
 use module::shape::ShapeRow;
 use refusal::Refusal;
 use std::process::Abort;
@@ -22,14 +21,9 @@ impl From<Refusal> for Refused {
     }
 }
 
-// The checked module, if it is accepted.
-pub(crate) fn checked<'a>(bytes: &'a [u8], sheet: &mut [ShapeRow]) -> Result<Checked<'a>, Refusal> {
-    Ok(open(bytes)?.check(sheet)?)
-}
-
 // What open, and then check over this sheet, answer.
 fn answer(bytes: &[u8], sheet: &mut [ShapeRow]) -> Result<(), Refused> {
-    checked(bytes, sheet)?;
+    examine(bytes, sheet)?;
     Ok(())
 }
 

@@ -1,9 +1,9 @@
 use crate::build::RAMP;
 use crate::written::{holds, room};
 use isa::row::Row;
+use module::check::examine;
 use module::checked::Checked;
 use module::entry::Entry;
-use module::open::open;
 use module::shape::ShapeRow;
 use packing::pack::pack;
 use packing::parts::Parts;
@@ -136,7 +136,7 @@ const NO_PARTS: Parts<'static> = Parts {
 
 // Over a sheet that is long enough for every module of the tests.
 fn checked(bytes: &[u8]) -> Result<Checked<'_>, Refusal> {
-    Ok(open(bytes)?.check(&mut [ShapeRow::BLANK; 64])?)
+    examine(bytes, &mut [ShapeRow::BLANK; 64])
 }
 
 // A call of unpack: the module, and how many entries and rows there is room for. What it answers and writes, and the image.

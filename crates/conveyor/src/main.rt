@@ -2,10 +2,6 @@
 
 #![tactic(auto)]
 
-ghost use Rattle.std.specs.Prelude.{◌≡◌, length};
-ghost use Rattle.module.specs.Told.{verdict_of};
-ghost use Rattle.module.specs.Verdict.{checking};
-
 use counter::CounterHost;
 use drive::call::Call;
 use drive::drive::Drive;
@@ -13,10 +9,8 @@ use faults::table::MOST_FAULTS;
 use host::Host;
 use host::port::MOST_PORTS;
 use machine::machine::State;
-use module::checked::Checked;
-use module::open::open;
+use module::check::examine;
 use module::shape::ShapeRow;
-use refusal::Refusal;
 use std::io;
 
 // How many instructions the module has.
@@ -45,12 +39,6 @@ const CALLS: [Call; 4] = [
     Call::PowerCycle,
     Call::Grant { fuel: 100 },
 ];
-
-fn examine<'a>(bytes: &'a [u8], sheet: &mut [ShapeRow]) -> Result<Checked<'a>, Refusal>
-    ensures { verdict_of result ≡ checking bytes.now (length sheet.old) }
-{
-    Ok(open(bytes)?.check(sheet)?)
-}
 
 fn print_ports<H: Host>(rt: &impl Print, host: &H) -> io::Result<()> {
     for p in 0..MOST_PORTS {

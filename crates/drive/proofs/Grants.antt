@@ -1,16 +1,18 @@
 -- What an accepted grant is, in plain words.
-use Rattle.std.proofs.Common.{◌≡◌, ◌≢◌, ℕ, zero, suc, ◌≤◌, Bool, true, false, cond, List, Some, None, Ok, Err, Option, Result, IfOk, sym, refl, ap, ◌∙◌, subst, arith}
-use Rattle.std.proofs.lemmas.Bool.{and_parts, leb-true}
+use Rattle.std.proofs.Common.{◌≡◌, ℕ, zero, suc, ◌<◌, ◌≤◌, Bool, ltb, true, false, cond, List, Some, None, Ok, Err, Option, Result, IfOk, sym, refl, ap, ◌∙◌, subst, inl, arith}
+use Rattle.std.proofs.lemmas.Bool.{and_parts, leb-true, ltb-true, ltb-false}
 use Rattle.refusal.specs.Values.{Values, caller}
 use Rattle.host.specs.declared.port.Port.{Port}
 use Rattle.machine.specs.World.{Phase, running, ended, tripped, World}
-use Rattle.machine.specs.Fuel.{TickRule, by_phase, steps, advanced, Spends}
-use Rattle.machine.proofs.Fuel.{spent}
+use Rattle.machine.specs.Fuel.{TickRule, by_phase, steps, advanced, StepsLead, Spends}
+use Rattle.machine.proofs.Fuel.{spent, way_foretold, way_runs, way_ends}
 use Rattle.drive.specs.declared.call.Call.{Call}
 use Rattle.drive.specs.declared.call.Call.TheVariants.{Grant}
 use Rattle.drive.specs.declared.drive.Drive.{Drive}
 use Rattle.drive.specs.Calls.{is_fuel, refusal, Outcome, done, unless_refused, outcome}
-use Rattle.drive.specs.View.{module_of, world_in, Called, Granted}
+use Rattle.drive.specs.Law.{Sound, Granted, EveryGrant}
+use Rattle.drive.specs.View.{module_of, world_in, Called}
+use Rattle.drive.proofs.Sound.{is_sound}
 use Rattle.drive.proofs.Stepping.{never, foretold_in}
 
 -- a grant that is not refused is to a drive that runs
@@ -40,9 +42,31 @@ spends_some : (bs : List ℕ) (rule : TickRule) (fuel : ℕ) (w : World) (made :
 spends_some bs rule fuel w zero v run some told = absurd (told.stopped some (ap (λ u. u.phase) told.lead ∙ run))
 spends_some bs rule fuel w (suc made) v run some told = omega arith
 
-granted : (rule : TickRule) (fuel : ℕ) (d : Drive) (ps : List Port) (said : ℕ × Phase) (e : Drive) (qs : List Port)
-    → Called rule (Grant fuel) d ps (Ok said) e qs
-    → Granted rule fuel d ps said e qs
+-- a drive is sound before and after each step that it makes
+module _ (rule : TickRule) (d : Drive) (ps : List Port) (e : Drive) (qs : List Port) (n : ℕ) (bytes : module_of e ≡ module_of d) (lead : StepsLead (module_of d) rule n (world_in d ps) (world_in e qs)) where
+  sound_before : (k : ℕ) → k < n → Sound (module_of d) rule (advanced (module_of d) rule k (world_in d ps))
+  sound_before k less =
+      let bs = module_of d in
+      let w = world_in d ps in
+      let foretold = way_foretold bs rule (never d) n w (world_in e qs) (foretold_in d ps) lead k (omega (arith, less)) in
+      let one = (never d).goes_on rule (advanced bs rule k w) (way_runs bs rule (never d) n w (world_in e qs) lead k less) foretold in
+      record { not_stuck = inl (one.0, one.1); foretold = (never d).foretold (advanced bs rule k w) foretold }
+
+  sound_last : Sound (module_of d) rule (advanced (module_of d) rule n (world_in d ps))
+  sound_last =
+      subst (λ b. Sound b rule (advanced (module_of d) rule n (world_in d ps))) bytes
+      (subst (λ (v : World). Sound (module_of e) rule v) (sym (way_ends (module_of d) rule (never d) n (world_in d ps) (world_in e qs) lead)) (is_sound rule e qs))
+
+  sound_on : (k : ℕ) → k ≤ n → Sound (module_of d) rule (advanced (module_of d) rule k (world_in d ps))
+  sound_on k most = by_place (ltb k n) refl
+    where
+      by_place : (b : Bool) → ltb k n ≡ b → Sound (module_of d) rule (advanced (module_of d) rule k (world_in d ps))
+      by_place true is = sound_before k (ltb-true k n is)
+      by_place false is =
+          let last : n ≡ k = omega (arith, most, ltb-false k n is) in
+          subst (λ k. Sound (module_of d) rule (advanced (module_of d) rule k (world_in d ps))) last sound_last
+
+pub granted : EveryGrant
 granted rule fuel d ps said e qs called = by_refusal (refusal (Grant fuel) w.phase) refl
   where
     bs : List ℕ
@@ -68,6 +92,7 @@ granted rule fuel d ps said e qs called = by_refusal (refusal (Grant fuel) w.pha
           some = spends_some bs rule fuel w said.0 (world_in e qs) (grants_run fuel w.phase h) (grants_fuel fuel w.phase h) here;
           spends = here;
           phase = ap (λ s. s.1) same ∙ sym (ap (λ u. u.phase) left);
+          sound = sound_on rule d ps e qs said.0 called.bytes here.lead;
         }
 
 -- so an answer of a grant is one if it is no refusal

@@ -23,6 +23,7 @@ use Rattle.drive.specs.Law.{Leads, Ran, Logged, is_listed, NotStuck, Sound, hist
 use Rattle.drive.specs.View.{Said, module_of, world_in, faults_in, by_values, call_of, said_of, Called, noted_all}
 use Rattle.drive.proofs.Entries.{fault_list_on}
 use Rattle.drive.proofs.Histories.{same_log}
+use Rattle.drive.proofs.Sound.{is_sound}
 use Rattle.drive.proofs.Spending.{phase_is}
 use Rattle.drive.proofs.Stepping.{never, foretold_in}
 
@@ -85,24 +86,6 @@ module _ (bs : List ℕ) (rule : TickRule) where
 
     pub same_module : module_of d ≡ bs
     same_module = ends.1.bytes
-
--- every cause is listed
-causes_listed : (cause : Cause) (place : Place) → is_listed (trip_of cause place) ≡ true
-causes_listed ZeroDivisor place = refl
-causes_listed (MemoryPassed address) place = refl
-causes_listed TooDeep place = refl
-causes_listed (Host NoPort port) place = refl
-causes_listed (Host SensePort port) place = refl
-causes_listed (Host OutOfLimits port) place = refl
-
--- a drive is never stuck
-is_sound : (rule : TickRule) (d : Drive) (ports : List Port) → Sound (module_of d) rule (world_in d ports)
-is_sound rule d ports = record { not_stuck = by_state d.machine.state (phase_is d ports); foretold = (never d).foretold (world_in d ports) (foretold_in d ports) }
-  where
-    by_state : (s : State) → (world_in d ports).phase ≡ phase_of s → NotStuck (module_of d) rule (world_in d ports)
-    by_state Running at = let n = (never d).goes_on rule (world_in d ports) at (foretold_in d ports) in inl (n.0, n.1)
-    by_state Ended at = inr (inl at)
-    by_state (Tripped cause place) at = inr (inr (trip_of cause place, at, causes_listed cause place))
 
 -- the law
 pub law_holds : EveryRun

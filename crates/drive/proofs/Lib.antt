@@ -4,6 +4,7 @@ pub mod Outcomes
 pub mod Restarts
 pub mod Places
 pub mod Entries
+pub mod Sound
 pub mod Grants
 pub mod Histories
 pub mod Laws

@@ -1,12 +1,12 @@
 -- The law over every list of calls.
-use Rattle.std.specs.Prelude.{◌≡◌, ℕ, ◌+◌, Bool, true, ◌&&◌, ◌||◌, ◌⊎◌, List, [], ◌∷◌, map, Some, None, Ok, Err, Option, Result, ◌==◌, nat_le}
+use Rattle.std.specs.Prelude.{◌≡◌, ℕ, ◌+◌, ◌≤◌, Bool, true, ◌&&◌, ◌||◌, ◌⊎◌, List, [], ◌∷◌, map, Some, None, Ok, Err, Option, Result, ◌==◌, nat_le}
 use Rattle.std.specs.List.{AllByRecursion}
 use Rattle.refusal.specs.Values.{Values}
 use Rattle.host.specs.declared.port.Port.{Port}
 use Rattle.faults.specs.Causes.{Trip}
 use Rattle.machine.specs.Foretold.{AsForetold, begun}
 use Rattle.machine.specs.World.{Phase, ended, tripped, World, step}
-use Rattle.machine.specs.Fuel.{TickRule}
+use Rattle.machine.specs.Fuel.{TickRule, advanced, Spends}
 use Rattle.drive.specs.declared.call.Call.{Call}
 use Rattle.drive.specs.declared.call.Call.TheVariants.{Grant, Restart, PowerCycle}
 use Rattle.drive.specs.declared.drive.Drive.{Drive}
@@ -53,6 +53,22 @@ NotStuck bs rule w =
 pub record Sound (bs : List ℕ) (rule : TickRule) (w : World) : Type 0 where
   pub not_stuck : NotStuck bs rule w
   pub foretold : AllByRecursion (AsForetold bs) w.levels
+
+-- What an accepted grant did to the drive d, over a host with the ports ps and this tick rule: it made at least one step and spent
+-- the fuel; the drive is e then, in the phase that is answered, and the ports are qs; and before and after each of the steps, k of
+-- them being made, it was sound.
+pub record Granted (rule : TickRule) (fuel : ℕ) (d : Drive) (ps : List Port) (said : ℕ × Phase) (e : Drive) (qs : List Port) : Type 0 where
+  pub some : 1 ≤ said.0
+  pub spends : Spends (module_of d) rule fuel (world_in d ps) said.0 (world_in e qs)
+  pub phase : said.1 ≡ (world_in e qs).phase
+  pub sound : (k : ℕ) → k ≤ said.0 → Sound (module_of d) rule (advanced (module_of d) rule k (world_in d ps))
+
+-- Every grant that was accepted is such a one, whoever made it.
+abbrev pub EveryGrant : Type 0
+EveryGrant =
+    (rule : TickRule) (fuel : ℕ) (d : Drive) (ps : List Port) (said : ℕ × Phase) (e : Drive) (qs : List Port)
+    → Called rule (Grant fuel) d ps (Ok said) e qs
+    → Granted rule fuel d ps said e qs
 
 -- what begins a run again
 pub data Again : Type 0 where

@@ -1,5 +1,5 @@
 -- A drive as the rules see it, and answers by their values.
-use Rattle.std.specs.Prelude.{◌≡◌, ℕ, ◌≤◌, List, [], ◌∷◌, ◌++◌, Option, Result}
+use Rattle.std.specs.Prelude.{◌≡◌, ℕ, List, [], ◌∷◌, ◌++◌, Option, Result}
 use Rattle.std.specs.Option.{option_map}
 use Rattle.std.specs.Result.{result_map_both}
 use Rattle.refusal.specs.Values.{Values, values_of}
@@ -12,7 +12,7 @@ use Rattle.machine.specs.declared.machine.State.{State}
 use Rattle.machine.specs.Parts.{phase_of}
 use Rattle.machine.specs.View.{module_of as module_under, world_of}
 use Rattle.machine.specs.World.{Phase, World}
-use Rattle.machine.specs.Fuel.{TickRule, Spends}
+use Rattle.machine.specs.Fuel.{TickRule}
 use Rattle.drive.specs.Calls.{Entry, trip, cycle, outcome}
 use Rattle.drive.specs.declared.call.Call.{Call}
 use Rattle.drive.specs.declared.call.Turn.{Turn}
@@ -62,10 +62,3 @@ pub record Called (rule : TickRule) (call : Call) (d : Drive) (ps : List Port) (
   pub world : world_in e qs ≡ (outcome (module_of d) rule call (world_in d ps)).world
   pub faults : faults_in e ≡ noted_all (faults_in d) (outcome (module_of d) rule call (world_in d ps)).entries
   pub bytes : module_of e ≡ module_of d
-
--- What an accepted grant did to the drive d, over a host with the ports ps and this tick rule: it made at least one step and spent
--- the fuel; the drive is e then, in the phase that is answered, and the ports are qs.
-pub record Granted (rule : TickRule) (fuel : ℕ) (d : Drive) (ps : List Port) (said : ℕ × Phase) (e : Drive) (qs : List Port) : Type 0 where
-  pub some : 1 ≤ said.0
-  pub spends : Spends (module_of d) rule fuel (world_in d ps) said.0 (world_in e qs)
-  pub phase : said.1 ≡ (world_in e qs).phase

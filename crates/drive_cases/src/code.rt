@@ -7,9 +7,9 @@ use host::port::HostRefusal;
 use isa::instr::{Instr, Operation};
 use isa::row::Row;
 use machine::machine::State;
+use module::check::examine;
 use module::checked::Checked;
 use module::entry::Entry;
-use module::open::open;
 use module::shape::ShapeRow;
 use packing::pack::pack;
 use packing::parts::Parts;
@@ -113,7 +113,7 @@ fn packed<'a>(
 }
 
 pub(crate) fn checked(module: &[u8]) -> Result<Checked<'_>, Refusal> {
-    Ok(open(module)?.check(&mut [ShapeRow::BLANK; 64])?)
+    examine(module, &mut [ShapeRow::BLANK; 64])
 }
 
 pub(crate) fn start(module: &[u8]) -> Result<Drive<'_>, Fail> {

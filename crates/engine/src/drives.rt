@@ -13,7 +13,6 @@ use crate::text::{add_answers, add_fault, add_place, add_state};
 use drive::call::Turn;
 use drive::drive::Drive;
 use drive::run::run;
-use faults::table::MOST_FAULTS;
 use host::Host;
 use host::port::MOST_PORTS;
 use module::checked::Checked;
@@ -44,21 +43,10 @@ fn add_memory(text: &mut Text, drive: &Drive<'_>)
     }
 }
 
-fn count_faults(drive: &Drive<'_>) -> usize
-    ensures { result ≡ length (faults_in drive.now) }
-{
-    for i in 0..MOST_FAULTS {
-        let Ok(_fault) = drive.fault(i) else {
-            return i;
-        };
-    }
-    MOST_FAULTS
-}
-
 fn add_faults(text: &mut Text, drive: &Drive<'_>)
     ensures { Added text.old.items (fields_bytes (faults_fields (faults_in drive.now))) text.new.items }
 {
-    let count = count_faults(drive);
+    let count = drive.fault_count();
     add(text, Field::One((count % 256) as u8));
     for i in 0..count {
         let Ok(fault) = drive.fault(i) else {

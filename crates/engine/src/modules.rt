@@ -1,7 +1,6 @@
 // What comes of a module: of its check, and of calls to a drive of it.
-ghost use Rattle.std.specs.Prelude.{◌≡◌, ◌<◌, length, map, drop, IfOk};
-ghost use Rattle.module.specs.Told.{bytes_of, verdict_of};
-ghost use Rattle.module.specs.Verdict.{checking, sheet_after};
+ghost use Rattle.std.specs.Prelude.{◌≡◌, ◌<◌, length, map, drop};
+ghost use Rattle.module.specs.Verdict.{sheet_after};
 ghost use Rattle.drive.specs.View.{call_of};
 ghost use Rattle.engine.specs.Fields.{fields_bytes, Added};
 ghost use Rattle.engine.specs.Whole.{counts_fields, verdict_fields, sheet_fields, axis_fields, table_fields, host_fields};
@@ -14,12 +13,10 @@ use drive::call::Turn;
 use host::axis::AxisHost;
 use host::port::{Flag, Port};
 use host::table::TableHost;
-use module::checked::Checked;
+use module::check::examine;
 use module::limits;
-use module::open::open;
 use module::opened::Counts;
 use module::shape::ShapeRow;
-use refusal::Refusal;
 
 // The most rows of a table that are read.
 const ROWS: usize = 512;
@@ -31,15 +28,6 @@ const BLANK: Port = Port {
     flag: Flag::Order,
     rest: None,
 };
-
-// The checked module, if it is accepted.
-pub(crate) fn examine<'a>(bytes: &'a [u8], sheet: &mut [ShapeRow]) -> Result<Checked<'a>, Refusal>
-    ensures verdict { verdict_of result ≡ checking bytes.now (length sheet.old) }
-    ensures sheet { sheet.new ≡ sheet_after bytes.now sheet.old }
-    ensures bytes { IfOk result (λ m. bytes_of m.opened ≡ bytes.now) }
-{
-    Ok(open(bytes)?.check(sheet)?)
-}
 
 // N, T and D.
 fn add_counts(text: &mut Text, counts: Counts)

@@ -6,9 +6,9 @@ ghost use Rattle.engine.specs.Fields.{fields_bytes, Added};
 ghost use Rattle.engine.specs.Parts.{sizes_fields, taken_apart_fields, lent_fields, length_fields, put_together_fields};
 
 use crate::field::{Field, Text, add, add_all, add_plain};
-use crate::modules::examine;
 use crate::text::{add_entries, add_instructions, add_refusal};
 use isa::row::Row;
+use module::check::examine;
 use module::checked::Checked;
 use module::entry::Entry;
 use module::limits;

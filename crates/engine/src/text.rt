@@ -4,7 +4,7 @@ ghost use Rattle.std.specs.List.{flat_map};
 ghost use Rattle.refusal.specs.Values.{values_of, told};
 ghost use Rattle.faults.specs.Causes.{trip_of};
 ghost use Rattle.faults.specs.Faults.{values_of as fault_values};
-ghost use Rattle.machine.specs.View.{phase_of};
+ghost use Rattle.machine.specs.Parts.{phase_of};
 ghost use Rattle.drive.specs.View.{by_values, said_of};
 ghost use Rattle.engine.specs.declared.field.Field.TheVariants.{Four};
 ghost use Rattle.engine.specs.Fields.{fields_bytes, refusal_fields, refused_fields, trip_fields, state_fields, answer_fields, place_fields, said_fields, fault_fields, row_fields, shape_fields, entry_fields, instruction_fields, Added};

@@ -1,5 +1,5 @@
 -- Steps that are made one after the other, and the fuel that they use.
-use Rattle.std.proofs.Common.{◌≡◌, ◌≢◌, ℕ, zero, suc, ◌+◌, true, List, Some, sym, refl, ap, ◌∙◌, subst, arith}
+use Rattle.std.proofs.Common.{◌≡◌, ◌≢◌, ℕ, zero, suc, ◌+◌, ◌<◌, ◌≤◌, true, List, Some, sym, refl, ap, ◌∙◌, subst, arith}
 use Rattle.std.specs.Prelude.{unwrap_or}
 use Rattle.machine.specs.World.{Phase, running, ended, tripped, World, step}
 use Rattle.machine.specs.Foretold.{NeverStuck, as_foretold}
@@ -94,3 +94,28 @@ module _ (bs : List ℕ) (rule : TickRule) (never : NeverStuck bs) where
   pub spent : {fuel made : ℕ} {w v : World} → as_foretold bs w ≡ true → made ≡ steps bs rule fuel w → v ≡ advanced bs rule made w → Spends bs rule fuel w made v
   spent {fuel} {made} {w} {v} foretold counted left =
       subst (Spends bs rule fuel w made) (sym left) (subst (SpendsAll fuel w) (sym counted) (spends fuel w foretold))
+
+  -- Along steps by the rules each world is as foretold, each before the last runs, and the last is the one to which they lead.
+  pub way_foretold : (n : ℕ) (w v : World) → as_foretold bs w ≡ true → StepsLead bs rule n w v → (k : ℕ) → k ≤ n → as_foretold bs (advanced bs rule k w) ≡ true
+  way_foretold n w v foretold lead zero h = foretold
+  way_foretold zero w v foretold lead (suc k) h = absurd (omega (arith, h))
+  way_foretold (suc n) w v foretold lead (suc k) h =
+      let one = never.goes_on rule w lead.0 foretold in
+      let both : Some one.0 ≡ Some lead.1 = sym one.1 ∙ lead.2 in
+      let same : one.0 ≡ lead.1 = cc in
+      let on : next bs rule w ≡ lead.1 = ap (λ o. unwrap_or o w) lead.2 in
+      let later = way_foretold n lead.1 v (subst (λ (u : World). as_foretold bs u ≡ true) same one.2) lead.3 k (omega (arith, h)) in
+      subst (λ (u : World). as_foretold bs (advanced bs rule k u) ≡ true) (sym on) later
+
+  pub way_runs : (n : ℕ) (w v : World) → StepsLead bs rule n w v → (k : ℕ) → k < n → (advanced bs rule k w).phase ≡ running
+  way_runs zero w v lead k h = absurd (omega (arith, h))
+  way_runs (suc n) w v lead zero h = lead.0
+  way_runs (suc n) w v lead (suc k) h =
+      let on : next bs rule w ≡ lead.1 = ap (λ o. unwrap_or o w) lead.2 in
+      ap (λ u. (advanced bs rule k u).phase) on ∙ way_runs n lead.1 v lead.3 k (omega (arith, h))
+
+  pub way_ends : (n : ℕ) (w v : World) → StepsLead bs rule n w v → advanced bs rule n w ≡ v
+  way_ends zero w v lead = sym lead
+  way_ends (suc n) w v lead =
+      let on : next bs rule w ≡ lead.1 = ap (λ o. unwrap_or o w) lead.2 in
+      ap (advanced bs rule n) on ∙ way_ends n lead.1 v lead.3

@@ -2,9 +2,9 @@ use host::Host;
 use host::axis::AxisHost;
 use isa::row::Row;
 use machine::machine::{Machine, State};
+use module::check::examine;
 use module::checked::Checked;
 use module::entry::Entry;
-use module::open::open;
 use module::shape::ShapeRow;
 use packing::pack::pack;
 use packing::parts::Parts;
@@ -59,7 +59,7 @@ fn stop(checked: Checked<'_>, axis: &mut AxisHost) -> Option<Stop> {
 
 // Over a sheet that is long enough for every module of the tests.
 fn checked(bytes: &[u8]) -> Result<Checked<'_>, Refusal> {
-    Ok(open(bytes)?.check(&mut [ShapeRow::BLANK; 64])?)
+    examine(bytes, &mut [ShapeRow::BLANK; 64])
 }
 
 // Wants these values at ports of the axis.

@@ -1,12 +1,13 @@
-ghost use Rattle.std.specs.Prelude.{◌≡◌, length, MatchResult};
+ghost use Rattle.std.specs.Prelude.{◌≡◌, length, IfOk, MatchResult};
 ghost use Rattle.refusal.specs.Values.{told};
 ghost use Rattle.module.specs.Layout.{routines, total};
 ghost use Rattle.module.specs.Rules.{rules};
 ghost use Rattle.module.specs.Shape.{rows_before};
-ghost use Rattle.module.specs.Told.{bytes_of, verdict_on};
+ghost use Rattle.module.specs.Told.{bytes_of, verdict_of, verdict_on};
 ghost use Rattle.module.specs.Verdict.{tried, checking, first_rows, sheet_after};
 
 use crate::checked::Checked;
+use crate::open::open;
 use crate::opened::Opened;
 use crate::refused::Refused;
 use crate::rule::Rule;
@@ -69,4 +70,13 @@ impl<'a> Opened<'a> {
             Err(refusal) => Err(self.refused(refusal)),
         }
     }
+}
+
+/// Opens and checks a module in one go: the checked module, or the first refusal of open and check.
+pub fn examine<'a>(bytes: &'a [u8], sheet: &mut [ShapeRow]) -> Result<Checked<'a>, Refusal>
+    ensures verdict { verdict_of result ≡ checking bytes.now (length sheet.old) }
+    ensures sheet { sheet.new ≡ sheet_after bytes.now sheet.old }
+    ensures bytes { IfOk result (λ m. bytes_of m.opened ≡ bytes.now) }
+{
+    Ok(open(bytes)?.check(sheet)?)
 }

@@ -110,7 +110,7 @@ impl Fields for RowAt<'_> {
     }
 }
 
-/// The entries and rows of a checked module, to be read one by one. It is copied, so that a loop has it at hand and reads
+/// The entries and rows of a module, to be read one by one; `Checked::contents` alone makes one. It is copied, so that a loop has it at hand and reads
 /// nothing but the bytes.
 #[derive(Clone, Copy)]
 pub struct Contents<'a> {

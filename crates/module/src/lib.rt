@@ -1,10 +1,10 @@
-//! Modules: opened, checked and taken.
+//! Modules: opened and checked, and what a checked one shows.
 
 #![tactic(auto)]
 
 pub mod body;
 mod bytes;
-mod check;
+pub mod check;
 pub mod checked;
 pub mod contents;
 pub mod entry;

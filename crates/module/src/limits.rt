@@ -28,6 +28,7 @@ const LENGTH: usize = 4 + 8 * ROUTINES + 8 * INSTRUCTIONS + IMAGE;
 /// How many bytes of an input decide every module: a module that opens has no more, and a longer input is refused as its
 /// first bytes are.
 pub fn deciding_length() -> usize
+    ensures value { result ≡ 37381 }
     ensures decides { (bs : List ℕ) → opening (take result bs) ≡ opening bs }
     ensures whole { (bs : List ℕ) → is_ok (opening bs) ≡ true → take result bs ≡ bs }
 {

@@ -23,7 +23,6 @@ impl<'a> Checked<'a> {
     }
 
     /// An instruction of a routine, if there is one at this place.
-    // Inlined: a caller that knows which it is makes no test for the others.
     #[inline(always)]
     pub fn instruction(&self, routine: usize, instruction: usize) -> Option<Instr>
         ensures { result ≡ instr_at (bytes_of self.now.opened) routine instruction }

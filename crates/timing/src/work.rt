@@ -8,13 +8,11 @@ use host::Host;
 use host::axis::AxisHost;
 use isa::row::Row;
 use machine::machine::State;
-use module::checked::Checked;
+use module::check::examine;
 use module::entry::Entry;
 use module::limits;
-use module::open::open;
 use module::shape::ShapeRow;
 use packing::repack::repack;
-use refusal::Refusal;
 use std::alloc::Global;
 use std::time::Clock;
 
@@ -36,13 +34,8 @@ pub(crate) fn measure(
     round.print(rt, name, each, unit)
 }
 
-// The checked module, if it is accepted.
-fn checked<'a>(bytes: &'a [u8], sheet: &mut [ShapeRow]) -> Result<Checked<'a>, Refusal> {
-    Ok(open(bytes)?.check(sheet)?)
-}
-
 fn grants(rt: &impl Clock, bytes: &[u8], sheet: &mut [ShapeRow]) -> anyhow::Result<Round> {
-    let mut drive = Drive::start(checked(bytes, sheet)?);
+    let mut drive = Drive::start(examine(bytes, sheet)?);
     let mut axis = AxisHost::new();
     best_round(rt, || grant(&mut drive, &mut axis))
 }
@@ -59,7 +52,7 @@ fn grant<H: Host>(drive: &mut Drive<'_>, host: &mut H) -> anyhow::Result<()> {
 
 fn checks(rt: &impl Clock, bytes: &[u8], sheet: &mut [ShapeRow]) -> anyhow::Result<Round> {
     best_round(rt, || {
-        checked(bytes, sheet)?;
+        examine(bytes, sheet)?;
         Ok(())
     })
 }
@@ -72,7 +65,7 @@ fn repacks(
 ) -> anyhow::Result<Round> {
     let mut rows = vec![in heap; Row::default(); limits::INSTRUCTIONS]?;
     let mut output = vec![in heap; 0; limits::deciding_length()]?;
-    let module = checked(bytes, sheet)?;
+    let module = examine(bytes, sheet)?;
     best_round(rt, || {
         repack(
             &module,

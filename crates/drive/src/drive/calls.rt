@@ -7,8 +7,8 @@ ghost use Rattle.machine.specs.Foretold.{begun};
 ghost use Rattle.machine.specs.Fuel.{TickRule};
 ghost use Rattle.drive.specs.declared.call.Call.TheVariants.{Grant, Restart, PowerCycle};
 ghost use Rattle.drive.specs.Calls.{is_fuel};
-ghost use Rattle.drive.specs.Law.{New};
-ghost use Rattle.drive.specs.View.{module_of, world_in, faults_in, by_values, Called, Granted};
+ghost use Rattle.drive.specs.Law.{New, Granted};
+ghost use Rattle.drive.specs.View.{module_of, world_in, faults_in, by_values, Called};
 
 use crate::call::{Answer, Call, MOST_FUEL};
 use crate::drive::Drive;

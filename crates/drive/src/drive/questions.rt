@@ -4,11 +4,13 @@ ghost use Rattle.std.specs.Result.{result_map_both};
 ghost use Rattle.host.specs.declared.port.Port.{Port};
 ghost use Rattle.refusal.specs.Values.{values_of, told};
 ghost use Rattle.faults.specs.Faults.{values_of as fault_values};
-ghost use Rattle.faults.specs.Lists.{most_faults};
+ghost use Rattle.faults.specs.Lists.{most_faults, MarkedFirst};
 ghost use Rattle.machine.specs.Shown.{register_at, byte_at};
+ghost use Rattle.machine.specs.Fuel.{TickRule};
 ghost use Rattle.machine.specs.Parts.{phase_of};
 ghost use Rattle.drive.specs.Questions.{asked, place_in, depth_in};
-ghost use Rattle.drive.specs.View.{world_in, faults_in};
+ghost use Rattle.drive.specs.Law.{Sound};
+ghost use Rattle.drive.specs.View.{module_of, world_in, faults_in};
 
 use crate::drive::Drive;
 use faults::fault::Fault;
@@ -16,9 +18,10 @@ use machine::machine::State;
 use refusal::{Place, Refusal};
 
 impl Drive<'_> {
-    /// Whether it runs, has ended, or has tripped.
+    /// Whether it runs, has ended, or has tripped. Over any host, and whatever was done to it, a drive is never stuck.
     pub fn state(&self) -> State
-        ensures { (ports : List Port) → phase_of result ≡ (world_in self.now ports).phase }
+        ensures phase { (ports : List Port) → phase_of result ≡ (world_in self.now ports).phase }
+        ensures sound { (rule : TickRule) (ports : List Port) → Sound (module_of self.now) rule (world_in self.now ports) }
     {
         self.machine.state
     }
@@ -60,6 +63,7 @@ impl Drive<'_> {
     pub fn fault_count(&self) -> usize
         ensures count { result ≡ length (faults_in self.now) }
         ensures few { result ≤ most_faults }
+        ensures sorted { MarkedFirst (faults_in self.now) }
     {
         self.faults.len()
     }

@@ -6,6 +6,7 @@ use Rattle.drive.specs.declared.call.Call.TheVariants.{Grant}
 use Rattle.drive.specs.declared.call.Turn.{Turn}
 use Rattle.drive.specs.Law.{Leads, Ran}
 use Rattle.drive.specs.View.{Said, call_of, said_of, by_values, Called}
+use Rattle.drive.proofs.Grants.{granted}
 use Rattle.drive.proofs.Laws.{leads_push, law_holds, same_calls, one_answer, one_call}
 use Rattle.drive.proofs.run.run.Goals as goal
 
@@ -57,4 +58,4 @@ returns g c =
       subst (λ (cs : List Call). Leads rule cs (map said_of items) new first drive ports) all
           (subst (λ (said : List Said). Leads rule (take i calls) said new first drive ports) filled inv.leads),
     ) in
-    record { ran = ran; law = law_holds bs rule first calls (map said_of items) drive ports ran; every_run = law_holds; calls = inv.calls; base = inv.base }
+    record { ran = ran; law = law_holds bs rule first calls (map said_of items) drive ports ran; every_run = law_holds; every_grant = granted; calls = inv.calls; base = inv.base }

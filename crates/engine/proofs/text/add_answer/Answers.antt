@@ -1,6 +1,6 @@
 use Rattle.std.proofs.Common.{[], ◌∷◌, ap, sym, refl}
 use Rattle.std.specs.Int.{w32, to_le_bytes}
-use Rattle.machine.specs.View.{phase_of}
+use Rattle.machine.specs.Parts.{phase_of}
 use Rattle.drive.specs.View.{by_values}
 use Rattle.engine.specs.Fields.{fields_bytes, state_fields, answer_fields}
 use Rattle.engine.proofs.Adding.{same, both_as}

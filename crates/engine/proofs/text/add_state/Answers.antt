@@ -1,5 +1,5 @@
 use Rattle.std.proofs.Common.{[], ◌∷◌, ap, sym, ◌∙◌}
-use Rattle.machine.specs.View.{phase_of}
+use Rattle.machine.specs.Parts.{phase_of}
 use Rattle.engine.specs.Fields.{fields_bytes, state_fields}
 use Rattle.engine.proofs.Adding.{same, both_as}
 use Rattle.engine.proofs.text.add_state.Goals as goal
