@@ -5,7 +5,6 @@
 use counter::CounterHost;
 use drive::call::Call;
 use drive::drive::Drive;
-use faults::table::MOST_FAULTS;
 use host::Host;
 use host::port::MOST_PORTS;
 use machine::machine::State;
@@ -51,7 +50,7 @@ fn print_ports<H: Host>(rt: &impl Print, host: &H) -> io::Result<()> {
 }
 
 fn print_faults(rt: &impl Print, drive: &Drive<'_>) -> io::Result<()> {
-    for i in 0..MOST_FAULTS {
+    for i in 0..drive.fault_count() {
         let Ok(fault) = drive.fault(i) else {
             break;
         };

@@ -40,8 +40,8 @@ pub record Spends (bs : List ℕ) (rule : TickRule) (fuel : ℕ) (w : World) (ma
   pub stopped : made < fuel → v.phase ≢ running
   pub lead : StepsLead bs rule made w v
 
--- n steps lead from the world w to the world v, and the machine runs before each: so of any fuel the first n make these steps,
--- and what is left makes those that it makes from v on
+-- so many times `next` leads from the world w to the world v, and the machine runs before each: of any fuel the first n make these
+-- steps, and what is left makes those that it makes from v on
 pub record Goes (bs : List ℕ) (rule : TickRule) (n : ℕ) (w v : World) : Type 0 where
   pub reaches : advanced bs rule n w ≡ v
   pub counts : (more : ℕ) → steps bs rule (n + more) w ≡ n + steps bs rule more v

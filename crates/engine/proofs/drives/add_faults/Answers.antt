@@ -28,15 +28,15 @@ returns-in_default c =
     let i = c.loop-i.i in
     let at = none_read faults i _ c.in_default.ensures in
     let rest = done W (λ f. fields_bytes (fault_fields f)) law faults i c.add.new.text.items c.loop-i.text.items (W faults) refl at c.loop-i.invariant in
-    let front = same _ _ ((length faults % 256) ∷ []) _ c.add.ensures (ap (λ n. (n % 256) ∷ []) c.count_faults-count.ensures) in
+    let front = same _ _ ((length faults % 256) ∷ []) _ c.add.ensures (ap (λ n. (n % 256) ∷ []) c.fault_count-count.ensures.count) in
     both_as c.args.text.now.items ((length faults % 256) ∷ []) c.add.new.text.items (W faults) c.loop-i.text.items _ front rest refl
 
 pub returns-after-loop-i : goal.returns-after-loop-i
 returns-after-loop-i c =
     let faults = faults_in c.args.drive.now in
     let i = c.loop-i.i in
-    let count : c.count_faults-count.result ≡ length faults = c.count_faults-count.ensures in
+    let count : c.fault_count-count.result ≡ length faults = c.fault_count-count.ensures.count in
     let past : length faults ≤ i = omega (arith, c.loop-i-test.false) in
     let rest = done W (λ f. fields_bytes (fault_fields f)) law faults i c.add.new.text.items c.loop-i.text.items (W faults) refl (drop_all i faults past) c.loop-i.invariant in
-    let front = same _ _ ((length faults % 256) ∷ []) _ c.add.ensures (ap (λ n. (n % 256) ∷ []) c.count_faults-count.ensures) in
+    let front = same _ _ ((length faults % 256) ∷ []) _ c.add.ensures (ap (λ n. (n % 256) ∷ []) c.fault_count-count.ensures.count) in
     both_as c.args.text.now.items ((length faults % 256) ∷ []) c.add.new.text.items (W faults) c.loop-i.text.items _ front rest refl
