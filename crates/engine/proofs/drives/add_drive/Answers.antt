@@ -37,7 +37,7 @@ returns c ports =
     let w = world_in drive ports in
     five c.args.text.now.items c.add_state.new.text.items c.add_place.new.text.items c.add_registers.new.text.items c.add_memory.new.text.items c.add_faults.new.text.items
     (state_fields w.phase) (place_fields (asked (place_in w.levels))) (register_fields w.levels) (map One (take 4096 w.memory)) (faults_fields (faults_in drive))
-    (same _ _ _ _ c.add_state.ensures (ap (λ phase. fields_bytes (state_fields phase)) (c.state.ensures ports)))
+    (same _ _ _ _ c.add_state.ensures (ap (λ phase. fields_bytes (state_fields phase)) (c.state.ensures.phase ports)))
     (same _ _ _ _ c.add_place.ensures (ap (λ place. fields_bytes (place_fields place)) (c.place.ensures ports)))
     (same _ _ _ _ c.add_registers.ensures (ap (λ levels. fields_bytes (register_fields levels)) (same_levels drive ports)))
     (same _ _ _ _ c.add_memory.ensures (ap (λ memory. fields_bytes (map One (take 4096 memory))) (same_memory drive ports)))
