@@ -6,6 +6,7 @@ pub mod Fronts
 pub mod Keeps
 pub mod Lookup
 pub mod Masks
+pub mod OneByOne
 pub mod Opens
 pub mod Passes
 pub mod ShapeRows

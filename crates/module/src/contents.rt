@@ -141,6 +141,7 @@ impl Contents<'_> {
 
     /// The entry of a routine, if there is such a routine.
     #[inline(always)]
+    #[tactic(auto, using(crate::proofs::OneByOne::no_entry, crate::proofs::OneByOne::an_entry))]
     pub fn entry(self, routine: usize) -> Option<Entry>
         ensures { result ≡ slice_get (entries (bytes_read self.entry)) routine }
     {
@@ -152,6 +153,7 @@ impl Contents<'_> {
 
     /// Row k of all, in order of place, if there are more than k.
     #[inline(always)]
+    #[tactic(auto, using(crate::proofs::OneByOne::no_row, crate::proofs::OneByOne::a_row))]
     pub fn row(self, k: usize) -> Option<Row>
         ensures { result ≡ slice_get (rows (bytes_read self.entry)) k }
     {

@@ -5,7 +5,7 @@ use Rattle.std.proofs.lemmas.Grind.{get_or-set_at}
 use Rattle.std.proofs.lemmas.Bool.{cases_lt}
 use Rattle.std.proofs.lemmas.Option.{same_Some, none-some}
 use Rattle.std.specs.List.{range_with_len}
-use Rattle.module.proofs.At.{read_there}
+use Rattle.module.proofs.OneByOne.{read_there}
 
 module _ {X : Type 0} (f : ℕ → X) (n r : ℕ) (h : r < n) where
   pub one_more : (xs xs' : List X) (x d : X) → length xs ≡ n → ((k : ℕ) → k < r → get_or xs k d ≡ f k)
