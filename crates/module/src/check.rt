@@ -28,7 +28,9 @@ impl<'a> Opened<'a> {
         Ok(())
     }
 
-    // Fills the rows and tries the rules; where one is broken, the rows are cleared.
+    // Fills the rows and tries the rules; where one is broken, the rows are cleared. It is a function of its own in the compiled
+    // code, too: as a part of `examine` it takes more instructions.
+    #[inline(never)]
     fn judge(&self, rows: &mut [ShapeRow]) -> Result<(), Refusal>
         requires { length rows.old ≡ total (bytes_of self.now) }
         ensures verdict { told result ≡ tried rules (bytes_of self.now) }
