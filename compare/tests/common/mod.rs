@@ -87,8 +87,10 @@ pub fn blocks(page: &str) -> Vec<Block> {
 }
 
 fn cells(line: &str) -> Vec<String> {
+    // a bar with a backslash before it belongs to its cell
+    let line = line.replace("\\|", "\u{a6}");
     let inner = line.trim().trim_start_matches('|').trim_end_matches('|');
-    let cells = inner.split('|').map(|cell| cell.trim().to_string());
+    let cells = inner.split('|').map(|cell| cell.trim().replace('\u{a6}', "|"));
     cells.collect()
 }
 
