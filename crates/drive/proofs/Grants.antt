@@ -6,10 +6,9 @@ use Rattle.host.specs.declared.port.Port.{Port}
 use Rattle.machine.specs.World.{Phase, running, ended, tripped, World}
 use Rattle.machine.specs.Fuel.{TickRule, by_phase, steps, advanced, StepsLead, Spends}
 use Rattle.machine.proofs.Fuel.{spent, way_foretold, way_runs, way_ends}
-use Rattle.drive.specs.declared.call.Call.{Call}
 use Rattle.drive.specs.declared.call.Call.TheVariants.{Grant}
 use Rattle.drive.specs.declared.drive.Drive.{Drive}
-use Rattle.drive.specs.Calls.{is_fuel, refusal, Outcome, done, unless_refused, outcome}
+use Rattle.drive.specs.Calls.{is_fuel, refusal, done, unless_refused}
 use Rattle.drive.specs.Law.{Sound, Granted, EveryGrant}
 use Rattle.drive.specs.View.{module_of, world_in, Called}
 use Rattle.drive.proofs.Sound.{is_sound}

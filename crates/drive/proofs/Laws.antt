@@ -1,17 +1,10 @@
 -- The law over lists of calls.
-use Rattle.std.proofs.Common.{◌≡◌, ℕ, ◌+◌, ◌<◌, true, List, [], ◌∷◌, ◌++◌, map, length, get_or, take, set, Some, Result, sym, refl, ap, ◌∙◌, subst, inl, inr, arith}
+use Rattle.std.proofs.Common.{◌≡◌, ℕ, ◌+◌, ◌<◌, List, [], ◌∷◌, ◌++◌, map, length, get_or, take, set, Some, Result, sym, refl, ap, ◌∙◌, subst, arith}
 use Rattle.std.proofs.lemmas.List.{length-map, map_push, map-set, set-get_or, get_or-map, take_more, take_more_set}
 use Rattle.refusal.specs.Values.{Values}
-use Rattle.refusal.specs.declared.Place.{Place}
 use Rattle.refusal.specs.declared.Refusal.{Refusal}
 use Rattle.host.specs.declared.port.Port.{Port}
-use Rattle.host.specs.declared.port.HostRefusal.TheVariants.{NoPort, SensePort, OutOfLimits}
-use Rattle.faults.specs.declared.cause.Cause.{Cause}
-use Rattle.faults.specs.declared.cause.Cause.TheVariants.{ZeroDivisor, MemoryPassed, TooDeep, Host}
-use Rattle.faults.specs.Causes.{trip_of}
 use Rattle.machine.specs.declared.machine.State.{State}
-use Rattle.machine.specs.declared.machine.State.TheVariants.{Running, Ended, Tripped}
-use Rattle.machine.specs.Parts.{phase_of}
 use Rattle.machine.specs.World.{Phase}
 use Rattle.machine.specs.Fuel.{TickRule}
 use Rattle.drive.specs.declared.call.Call.{Call}
@@ -19,13 +12,11 @@ use Rattle.drive.specs.declared.call.Turn.{Turn}
 use Rattle.drive.specs.declared.drive.Drive.{Drive}
 use Rattle.drive.specs.Calls.{outcome}
 use Rattle.drive.specs.Log.{Log, new_log, after_call, log_after, answers, fault_list}
-use Rattle.drive.specs.Law.{Leads, Ran, Logged, is_listed, NotStuck, Sound, history, EveryRun}
+use Rattle.drive.specs.Law.{Leads, Ran, Logged, Sound, history, EveryRun}
 use Rattle.drive.specs.View.{Said, module_of, world_in, faults_in, by_values, call_of, said_of, Called, noted_all}
 use Rattle.drive.proofs.Entries.{fault_list_on}
 use Rattle.drive.proofs.Histories.{same_log}
 use Rattle.drive.proofs.Sound.{is_sound}
-use Rattle.drive.proofs.Spending.{phase_is}
-use Rattle.drive.proofs.Stepping.{never, foretold_in}
 
 -- one call more
 pub leads_push : (rule : TickRule) (calls : List Call) (said : List Said) (call : Call) (answer : Result (ℕ × Phase) Values) (d : Drive) (ps : List Port) (m : Drive) (ms : List Port) (e : Drive) (qs : List Port)

@@ -1,5 +1,4 @@
-use Rattle.std.proofs.Common.{◌≡◌, sym, ◌∙◌}
-use Rattle.module.specs.Places.{instr_at}
+use Rattle.std.proofs.Common.{sym, ◌∙◌}
 use Rattle.module.specs.Told.{bytes_of}
 use Rattle.module.proofs.At.{no_routine}
 use Rattle.module.proofs.checked.Checked.instruction.Goals as goal

@@ -1,9 +1,9 @@
-use Rattle.std.proofs.Common.{◌<◌, Some, None, sym, ap, ◌+◌, ◌*◌, ◌∙◌, arith}
+use Rattle.std.proofs.Common.{Some, None, sym, ap, ◌+◌, ◌*◌, ◌∙◌, arith}
 use Rattle.std.proofs.lemmas.Bool.{cond-true}
 use Rattle.isa.specs.Form.{well_formed, instruction}
-use Rattle.module.specs.Layout.{count, row_from, row_at}
+use Rattle.module.specs.Layout.{row_from, row_at}
 use Rattle.module.proofs.Accepts.{accepts_laid, accepts_kept}
-use Rattle.module.proofs.At.{an_instruction, no_instruction}
+use Rattle.module.proofs.At.{an_instruction}
 use Rattle.module.proofs.site.Site.instruction.Goals as goal
 
 pub overflow_mul-index : goal.overflow_mul-index
