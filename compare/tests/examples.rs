@@ -125,7 +125,7 @@ fn of_check() {
     all_hold("CHECK.md", 40);
 }
 
-/// README.md, "What is tested and not proved": there are 94 worked examples.
+/// docs/PROMISES.md, "What is tested and not proved": there are 94 worked examples.
 #[test]
 fn of_all_pages() {
     let pages = [
