@@ -1,7 +1,9 @@
 -- Rows of a table, and the numbers of their faults.
 use Rattle.std.proofs.Common.{◌≡◌, ℕ, suc, ◌+◌, ◌-◌, ◌<◌, ◌≤◌, true, false, eqb, List, [], ◌∷◌, ◌++◌, map, length, get_or, take, drop, set, sym, refl, ap, ◌∙◌, arith}
 use Rattle.std.proofs.Math.Seq.{set-append_seam}
-use Rattle.std.proofs.lemmas.List.{get_or-map, map-set, take-map, drop-map, map-append, take-append-le, drop-take, length-drop}
+use Rattle.std.proofs.lemmas.List.{get_or-map, map-set, take-map, drop-map, map-append, drop-take, length-drop}
+use Rattle.std.proofs.lemmas.List.Edits.{take-paste}
+use Rattle.std.specs.List.{copy_within}
 use Rattle.std.specs.Int.{from_bool}
 use Rattle.faults.specs.declared.fault.Fault.{Fault}
 use Rattle.faults.specs.Faults.{no_fault, values_of, marked, is_marked}
@@ -29,13 +31,21 @@ turned_put n (x ∷ xs) y h =
     let last : n ≡ length xs = omega arith in
     ap (λ k. set (xs ++ (x ∷ [])) k y) last ∙ set-append_seam xs x [] y
 
--- rows that are turned round by as many as go: those that are left stand first
-pub turned_left : {X : Type 0} (gone count : ℕ) (xs : List X)
+-- rows of which those that are left come to the front
+pub brought_front : (gone count : ℕ) (old new : List Fault)
     → gone ≤ count
-    → count ≤ length xs
-    → take (count - gone) (drop gone xs ++ take gone xs) ≡ drop gone (take count xs)
-turned_left gone count xs h h' =
-    let all : gone + (count - gone) ≡ count = omega arith in
-    take-append-le (count - gone) (drop gone xs) (take gone xs) (omega (arith, length-drop gone xs))
-    ∙ sym (drop-take gone (count - gone) xs)
-    ∙ ap (λ n. drop gone (take n xs)) all
+    → count ≤ length old
+    → new ≡ copy_within old gone count 0
+    → take (count - gone) (map values_of new) ≡ drop gone (take count (map values_of old))
+brought_front gone count old new h h' is =
+    let left = count - gone in
+    let all : gone + left ≡ count = omega arith in
+    let front : left ≡ 0 + left = omega arith in
+    take-map values_of left new
+    ∙ ap (λ rows. map values_of (take left rows)) is
+    ∙ ap (λ n. map values_of (take n (copy_within old gone count 0))) front
+    ∙ ap (map values_of) (take-paste old 0 (drop gone old) left (omega arith) (omega (arith, length-drop gone old)))
+    ∙ sym (take-map values_of left (drop gone old))
+    ∙ ap (take left) (sym (drop-map values_of gone old))
+    ∙ sym (drop-take gone left (map values_of old))
+    ∙ ap (λ n. drop gone (take n (map values_of old))) all

@@ -1,5 +1,5 @@
 -- What stays over ticks and refused writes, by what every host proves.
-use Rattle.std.proofs.Common.{◌≡◌, ℕ, zero, suc, ltb, List, [], ◌∷◌, length, get_or, set, Ok, Err, sym, ap, ◌∙◌, inl, inr, arith}
+use Rattle.std.proofs.Common.{◌≡◌, ℕ, zero, suc, ◌<◌, ltb, List, [], ◌∷◌, length, get_or, set, Ok, Err, sym, ap, ◌∙◌, inl, inr, arith}
 use Rattle.std.proofs.lemmas.List.{set-get_or, set_past}
 use Rattle.std.proofs.lemmas.Bool.{cond-true, cond-false, lt-ltb, le-ltb, cases_lt}
 use Rattle.std.specs.List.{AllZip}
@@ -42,9 +42,15 @@ refused_written ports p v e refused = elim (cases_lt p (length ports)) [
   | inr h ↦ set_past ports p _ h
 ]
 
+-- a port that was read is there
+pub read_there : (ports : List Port) (p x : ℕ) → reading ports p ≡ Ok x → p < length ports
+read_there ports p x e = elim (cases_lt p (length ports)) [
+  | inl h ↦ h
+  | inr h ↦ let past = sym e ∙ cond-false (ltb p (length ports)) (Ok (value_at ports p)) _ (le-ltb p (length ports) h) in absurd (cc)
+]
+
 -- a port that was read is read again, where there are as many ports
 pub read_again : (before after : List Port) (p x : ℕ) → length after ≡ length before → Ok x ≡ reading before p → reading after p ≡ Ok (value_at after p)
-read_again before after p x same found = elim (cases_lt p (length before)) [
-  | inl h ↦ cond-true (ltb p (length after)) _ _ (lt-ltb p (length after) (omega arith))
-  | inr h ↦ let past = found ∙ cond-false (ltb p (length before)) (Ok (value_at before p)) _ (le-ltb p (length before) h) in absurd (cc)
-]
+read_again before after p x same found =
+    let there = read_there before p x (sym found) in
+    cond-true (ltb p (length after)) _ _ (lt-ltb p (length after) (omega (arith, same, there)))

@@ -10,6 +10,7 @@ use Rattle.module.specs.declared.body.Body.{Body}
 use Rattle.module.specs.Accepted.{accepted}
 use Rattle.module.specs.Told.{bytes_behind}
 use Rattle.module.specs.Kept.{In}
+use Rattle.module.specs.Laid.{Laid}
 use Rattle.module.specs.Layout.{routines, count, instr}
 use Rattle.module.specs.Places.{inside, instr_at}
 use Rattle.module.proofs.Accepts.{accepts_laid, accepts_body, in_variables}
@@ -36,7 +37,7 @@ pub record Legal (bs : List ℕ) (r : ℕ) (x : Instr) (depth : ℕ) : Type 0 wh
   pub called : calls bs x ≡ true
   pub fit : Fit (access_in bs r x) depth
 
-legal : (bs : List ℕ) (r : ℕ) (x : Instr) (s : List Bool) → allowed bs r x s ≡ true → Legal bs r x (length s)
+pub legal : (bs : List ℕ) (r : ℕ) (x : Instr) (s : List Bool) → allowed bs r x s ≡ true → Legal bs r x (length s)
 unfolding allowed
 legal bs r x s h =
     let d = length s in
@@ -58,7 +59,7 @@ legal bs r x s h =
     }
 
 -- it writes no constant
-spared : (bs : List ℕ) (r : ℕ) (x : Instr) (s : List Bool) → allowed bs r x s ≡ true → constants bs r s x ≡ true
+pub spared : (bs : List ℕ) (r : ℕ) (x : Instr) (s : List Bool) → allowed bs r x s ≡ true → constants bs r s x ≡ true
 unfolding allowed
 spared bs r x s h =
     let p = and_parts (stacks (length s) x) (calls bs x && (registers bs r (length s) x && constants bs r s x)) h in
@@ -90,22 +91,27 @@ pub placed : (bs : List ℕ) (r i : ℕ) (x : Instr) → instr_at bs r i ≡ Som
 unfolding instr_at
 placed bs r i x e = inside_parts bs r i (some_if (inside bs r i) (instr bs r i) x e)
 
+-- in a module that is laid out as the format says, a place has small numbers
+pub low : (bs : List ℕ) → Laid bs → (r i : ℕ) → r < routines bs → i < count bs r → (r < 65536) × (i < 65536)
+low bs laid r i h g =
+    let entry = laid.entry r h in
+    (omega (arith, h, laid.few), omega (arith, g, entry.inside, laid.short))
+
 module _ (bs : List ℕ) (ok : accepted bs ≡ true) where
   -- a routine that stands at an instruction, which has a rule there
   pub ready_at : (l : Level) (x : Instr) → here bs l ≡ Some x → allowed_at bs l (here bs l) ≡ true → Ready bs l x
   unfolding allowed_at
   ready_at l x e h =
       let p = placed bs l.routine l.pc x e in
-      let laid = accepts_laid bs ok in
-      let entry = laid.entry l.routine p.0 in
+      let small = low bs (accepts_laid bs ok) l.routine l.pc p.0 p.1 in
       let rules = legal bs l.routine x (shape_of l.registers) (sym (ap (allowed_at bs l) e) ∙ h) in
       record {
         stands = e;
         legal = subst (Legal bs l.routine x) (length-shape l.registers) rules;
         spare = spared bs l.routine x (shape_of l.registers) (sym (ap (allowed_at bs l) e) ∙ h);
         routine = p.0;
-        routine_low = omega (arith, p.0, laid.few);
-        place_low = omega (arith, p.1, entry.inside, laid.short);
+        routine_low = small.0;
+        place_low = small.1;
       }
 
   pub ready : (l : Level) (ls : List Level) (x y : Instr) → able bs l ls ≡ true → here bs l ≡ Some x → x ≡ y → Ready bs l y

@@ -29,14 +29,14 @@ entries_right es rs im counts t sum short all =
     }
 
 -- every instruction stands in a routine
-record Placed (es : List Entry) (m k : ℕ) : Type 0 where
+pub record Placed (es : List Entry) (m k : ℕ) : Type 0 where
   pub routine : ℕ
   pub instruction : ℕ
   pub within : routine < m
   pub inside : instruction < (nth_entry es routine).count
   pub at : before es routine + instruction ≡ k
 
-placed : (es : List Entry) (m k : ℕ) → k < before es m → Placed es m k
+pub placed : (es : List Entry) (m k : ℕ) → k < before es m → Placed es m k
 placed es zero k h = absurd (omega arith)
 placed es (suc m) k h =
     ⊎_elim

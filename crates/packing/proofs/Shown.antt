@@ -1,5 +1,5 @@
 -- What a packed module shows: its entries, rows and image.
-use Rattle.std.proofs.Common.{◌≡◌, ℕ, zero, suc, ◌+◌, ◌-◌, ◌*◌, ◌<◌, ◌≤◌, true, ◌&&◌, eqb, leb, List, ◌++◌, map, length, get_or, drop, Ok, sym, refl, ap, ◌∙◌, append_assoc, arith, length-append}
+use Rattle.std.proofs.Common.{◌≡◌, ℕ, zero, suc, ◌+◌, ◌-◌, ◌*◌, ◌^◌, ◌<◌, ◌≤◌, true, ◌&&◌, eqb, leb, List, ◌++◌, map, length, get_or, drop, Ok, sym, refl, ap, ◌∙◌, append_assoc, arith, length-append}
 use Rattle.std.proofs.lemmas.List.FromFn.{fill_by_all}
 use Rattle.std.proofs.lemmas.List.{get_or_append_left, get_or-append_right, get_or-append-add, drop_at}
 use Rattle.std.proofs.lemmas.Bool.{and_from, eq-eqb, le-leb}
@@ -7,7 +7,7 @@ use Rattle.std.proofs.lemmas.Bool.Decides.{nat_tests}
 use Rattle.std.specs.List.{range_with_len}
 use Rattle.refusal.specs.Values.{author}
 use Rattle.isa.specs.declared.row.Row.{Row}
-use Rattle.isa.specs.Form.{row}
+use Rattle.isa.specs.Form.{row, well_formed}
 use Rattle.module.specs.declared.entry.Entry.{Entry}
 use Rattle.module.specs.Bytes.{byte, four}
 use Rattle.module.specs.First.{first_failing}
@@ -18,12 +18,12 @@ use Rattle.module.proofs.Firsts.{all_pass}
 use Rattle.packing.specs.Pack.{size}
 use Rattle.packing.specs.Packed.{low2, no_entry, no_row, nth_entry, nth_row, before, total, entry_bytes, row_bytes, blocks, packed}
 use Rattle.packing.specs.Shows.{Shows}
-use Rattle.packing.specs.Tested.{EntriesRight, RowsRight}
+use Rattle.packing.specs.Tested.{EntriesRight}
 use Rattle.packing.proofs.Blocks.{blocks_long, block_at}
 use Rattle.packing.proofs.Digits.{two_back, four_back}
 use Rattle.packing.proofs.Sums.{inside}
 
-module _ (es : List Entry) (rs : List Row) (im : List ℕ) (ok : EntriesRight es rs im) (sound : RowsRight rs) where
+module _ (es : List Entry) (rs : List Row) (im : List ℕ) (ok : EntriesRight es rs im) (words : (k : ℕ) → k < length rs → (nth_row rs k).n < 2 ^ 32) where
   abbrev p : List ℕ
   p = packed es rs im
 
@@ -109,15 +109,15 @@ module _ (es : List Entry) (rs : List Row) (im : List ℕ) (ok : EntriesRight es
       + 256 * get (at + 4 + 1) 5 (omega arith) (omega arith) i
       + 65536 * get (at + 4 + 2) 6 (omega arith) (omega arith) i
       + 16777216 * get (at + 4 + 3) 7 (omega arith) (omega arith) i)
-      ∙ four_back (nth_row rs k).n (sound.words k h) in
+      ∙ four_back (nth_row rs k).n (words k h) in
       ap (λ m. layout.row_from p (4 + 8 * m + 8 * k)) routines_is
       ∙ (λ i. row (get at 0 (omega arith) (omega arith) i) (get (at + 1) 1 (omega arith) (omega arith) i) (get (at + 2) 2 (omega arith) (omega arith) i) (get (at + 3) 3 (omega arith) (omega arith) i) (word i))
 
-  entries_shown : entries p ≡ es
+  pub entries_shown : entries p ≡ es
   entries_shown =
       ap (λ m. map (entry_of p) (range_with_len 0 m)) routines_is ∙ sym (fill_by_all (entry_of p) es n no_entry refl (λ k h. sym (entry_is k h)))
 
-  rows_shown : rows p ≡ rs
+  pub rows_shown : rows p ≡ rs
   rows_shown =
       ap (λ m. map (body_row p) (range_with_len 0 m)) (total_is ∙ sym ok.all) ∙ sym (fill_by_all (body_row p) rs (length rs) no_row refl (λ k h. sym (row_is k h)))
 
@@ -125,11 +125,11 @@ module _ (es : List Entry) (rs : List Row) (im : List ℕ) (ok : EntriesRight es
   given_is : layout.length_given p ≡ size es im
   given_is = λ i. 4 + 8 * routines_is i + 8 * total_is i + image_length_is i
 
-  packed_long : length p ≡ size es im
+  pub packed_long : length p ≡ size es im
   packed_long =
       omega (arith, length-append contents (bodies ++ im), length-append bodies im, contents_long, bodies_long, ok.all)
 
-  image_shown : image p ≡ im
+  pub image_shown : image p ≡ im
   image_shown =
       let front = hd ++ (contents ++ bodies) in
       let whole : p ≡ front ++ im = ap (λ l. hd ++ l) (sym (append_assoc contents bodies im)) ∙ sym (append_assoc hd (contents ++ bodies) im) in
@@ -145,7 +145,7 @@ module _ (es : List Entry) (rs : List Row) (im : List ℕ) (ok : EntriesRight es
   counts_right_lem : layout.counts_right p ≡ true
   counts_right_lem = (λ i. layout.admitted (routines_is i) (image_length_is i)) ∙ grind (arith, nat_tests)
 
-  opens : layout.opening p ≡ Ok (layout.counts p)
+  pub opens : layout.opening p ≡ Ok (layout.counts p)
   opens =
       let long = packed_long in
       let none = ap (λ m. first_failing (layout.entry_right p) m 0) routines_is ∙ all_pass (layout.entry_right p) n 0 (λ j g h. entry_right_lem j (omega arith)) in
@@ -159,5 +159,5 @@ module _ (es : List Entry) (rs : List Row) (im : List ℕ) (ok : EntriesRight es
       (layout.provided (exact i) (author 4 0 0)
       (Ok (layout.counts p))))))
 
-  pub shows : Shows p es rs im
-  shows = record { long = packed_long; opens = opens; contents = entries_shown; bodies = rows_shown; last = image_shown; formed = sound.formed }
+  pub shows : ((k : ℕ) → k < length rs → well_formed (nth_row rs k) ≡ true) → Shows p es rs im
+  shows formed = record { long = packed_long; opens = opens; contents = entries_shown; bodies = rows_shown; last = image_shown; formed = formed }

@@ -1,4 +1,5 @@
 // Modules put together from instructions.
+use isa::encode::encode;
 use isa::instr::{Instr, Operation, Test};
 use isa::row::Row;
 use module::entry::Entry;
@@ -47,7 +48,7 @@ fn entries_of(heap: Global, routines: &[Routine<'_>]) -> Result<Vec<Entry>, Allo
 fn rows_of(heap: Global, routines: &[Routine<'_>]) -> Result<Vec<Row>, AllocError> {
     let mut rows = Vec::new(heap);
     for routine in routines {
-        rows.extend(routine.instrs.iter().map(|instr| Row::from(*instr)))?;
+        rows.extend(routine.instrs.iter().map(|instr| encode(*instr)))?;
     }
     Ok(rows)
 }

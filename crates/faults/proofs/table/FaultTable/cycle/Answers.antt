@@ -6,13 +6,13 @@ use Rattle.faults.specs.Lists.{MarkedFirst}
 use Rattle.faults.specs.Tables.{rows_of}
 use Rattle.host.proofs.Sweep.{swept_more, take-swept}
 use Rattle.faults.proofs.Marks.{first_rows, left_after}
-use Rattle.faults.proofs.Rows.{turned_rows, turned_left}
+use Rattle.faults.proofs.Rows.{brought_front}
 use Rattle.faults.proofs.table.FaultTable.cycle.Goals as goal
 
 pub loop-i-preserved : goal.loop-i-preserved
 loop-i-preserved c =
-    let begun = map values_of c.rotate_left.new.self in
-    let in-begun : c.loop-i.i < length begun = omega (arith, length-map c.rotate_left.new.self values_of) in
+    let begun = map values_of c.copy_within.new.self in
+    let in-begun : c.loop-i.i < length begun = omega (arith, length-map c.copy_within.new.self values_of) in
     c.mark.ensures ∙ swept_more marked no_fault c.loop-i.i begun (rows_of c.loop-i.self) in-begun c.loop-i.invariant
 
 pub returns-clause-left : goal.returns-clause-left
@@ -25,10 +25,9 @@ returns-clause-left c =
     let Left : List FaultValues → Type 0 = λ faults. filter (λ fault. not (is_marked fault)) faults ≡ drop gone faults in
     let left = subst Left c.first.ensures (left_after gone first point.0 point.1) in
     let rows = rows_of c.args.self.now in
-    let begun = map values_of c.rotate_left.new.self in
-    let turned = turned_rows gone c.args.self.now.rows c.rotate_left.new.self c.rotate_left.ensures.after in
+    let begun = map values_of c.copy_within.new.self in
     let few : gone ≤ c.args.count = omega (arith, ap length c.first.ensures, length-map first values_of, length-take c.args.count rows) in
-    let stand = turned_left gone c.args.count rows few (omega (arith, length-map c.args.self.now.rows values_of)) in
+    let stand = brought_front gone c.args.count c.args.self.now.rows c.copy_within.new.self few (omega arith) c.copy_within.ensures.after in
     let all : c.loop-i.i ≡ count = omega arith in
     let done = c.loop-i.invariant ∙ ap (λ i. map marked (take i begun) ++ drop i begun) all in
-    ap (take count) done ∙ take-swept marked count begun ∙ ap (map marked) (ap (take count) turned ∙ stand ∙ sym left)
+    ap (take count) done ∙ take-swept marked count begun ∙ ap (map marked) (stand ∙ sym left)

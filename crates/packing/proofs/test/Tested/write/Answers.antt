@@ -2,7 +2,7 @@ use Rattle.std.proofs.Common.{◌≡◌, ◌+◌, ◌*◌, [], ◌∷◌, ◌++�
 use Rattle.packing.specs.Pack.{size}
 use Rattle.packing.specs.Packed.{low2, low4, nth_entry, nth_row, before, entry_bytes, row_bytes, blocks, packed}
 use Rattle.packing.proofs.Blocks.{put_more, block_more, blocks_long}
-use Rattle.packing.proofs.Shown.{shows}
+use Rattle.packing.proofs.Shown.{shows, packed_long}
 use Rattle.packing.proofs.test.Tested.write.Goals as goal
 
 pub loop-entry-preserved : goal.loop-entry-preserved
@@ -48,11 +48,12 @@ returns-clause-output c =
     = omega (arith, so_far.at, length-append contents bodies, blocks_long (entry_bytes es) (λ k. refl) (length es), blocks_long (λ k. row_bytes (nth_row rs k)) (λ k. refl) c.loop-row.row-index) in
     let whole : size es im ≡ c.loop-row.at + length im = omega (arith, so_far.at, n, c.args.self.now.counted.entries.all) in
     let all : (contents ++ bodies) ++ im ≡ packed es rs im = ap (λ k. (contents ++ blocks (λ j. row_bytes (nth_row rs j)) k) ++ im) n ∙ simp append_assoc in
-    let whole_long : size es im ≡ length (packed es rs im) = sym (shows es rs im c.args.self.now.counted.entries c.args.self.now.rows).long in
+    let whole_long : size es im ≡ length (packed es rs im) = sym (packed_long es rs im c.args.self.now.counted.entries c.args.self.now.rows.words) in
     put_more c.args.output.now (contents ++ bodies) im c.loop-row.output _ c.loop-row.at (size es im) so_far.output long whole c.put.ensures.output
     ∙ (λ i. all i ++ drop (whole_long i) c.args.output.now)
 
 pub returns-clause-shows : goal.returns-clause-shows
 returns-clause-shows c =
     let t = c.args.self.now.counted in
-    shows t.parts.entries.now t.parts.rows.now t.parts.image.now t.entries c.args.self.now.rows
+    let rows = c.args.self.now.rows in
+    shows t.parts.entries.now t.parts.rows.now t.parts.image.now t.entries rows.words rows.formed
