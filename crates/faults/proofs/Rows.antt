@@ -40,10 +40,10 @@ pub brought_front : (gone count : ℕ) (old new : List Fault)
 brought_front gone count old new h h' is =
     let left = count - gone in
     let all : gone + left ≡ count = omega arith in
-    let front : left ≡ 0 + left = omega arith in
+    let none_before : left ≡ 0 + left = omega arith in
     take-map values_of left new
     ∙ ap (λ rows. map values_of (take left rows)) is
-    ∙ ap (λ n. map values_of (take n (copy_within old gone count 0))) front
+    ∙ ap (λ n. map values_of (take n (copy_within old gone count 0))) none_before
     ∙ ap (map values_of) (take-paste old 0 (drop gone old) left (omega arith) (omega (arith, length-drop gone old)))
     ∙ sym (take-map values_of left (drop gone old))
     ∙ ap (take left) (sym (drop-map values_of gone old))

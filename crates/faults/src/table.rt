@@ -76,7 +76,8 @@ impl FaultTable {
     {
         let gone = self.first(count).partition_point(|fault| fault.marked);
         let left = count - gone;
-        // Those that are left come to the front. The rows behind them are not used, so nothing is turned round, which takes longer.
+        // Those that are left come to the front. What stands behind them is not used, so it is not kept:
+        // to turn the rows round takes longer.
         self.rows.copy_within(gone..count, 0);
         // By index: it is a rule that the table lends one record at a time, in a method of its own.
         for i in 0..left {
